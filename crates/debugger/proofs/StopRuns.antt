@@ -1,6 +1,7 @@
--- Runs with breakpoints: many rounds in one call, none of which begins at a marked place, lead where rounds one by one do.
-use Rattle.std.proofs.Common.{◌≡◌, ◌==◌, ◌<◌, ◌≤◌, ◌+◌, ◌-◌, ◌*◌, ◌%◌, ◌∙◌, ℕ, zero, suc, Bool, true, false, Option, Some, None}
-use Rattle.std.proofs.Common.{List, ◌∷◌}
+-- Runs with breakpoints: many rounds in one call, none of which begins at a marked place, lead where rounds one by one
+-- do.
+use Rattle.std.proofs.Common.{◌≡◌, ◌==◌, ◌<◌, ◌≤◌, ◌+◌, ◌-◌, ◌*◌, ◌%◌, ◌∙◌, ℕ, zero, suc, Bool, true, false}
+use Rattle.std.proofs.Common.{Option, Some, None, List, ◌∷◌}
 use Rattle.std.proofs.Common.{refl, ap, sym, subst, arith, nat_eq, add-one}
 use Rattle.std.proofs.Math.Dec.{eqb-suc-zero}
 use Rattle.std.proofs.lemmas.Bool.{eqb-true, false≢true, leb-true}
@@ -20,8 +21,8 @@ use Rattle.scheduler.specs.Rounds.{IsRoundPast, PickedPast, PicksPast, RoundsPas
 use Rattle.scheduler.specs.Rounds.{picked_answer}
 use Rattle.scheduler.proofs.Picking.{collector_done}
 use Rattle.debugger.specs.Breakpoints.{Breakpoints, first_at, is_same_place, least_at}
-use Rattle.debugger.specs.Runs.{Covers, Ran, answer_unless, are_whole, ended, held_unless, one_more, picked_unless, run_on}
-use Rattle.debugger.specs.Runs.{sweep_answer, swept_once}
+use Rattle.debugger.specs.Runs.{Covers, Ran, answer_unless, are_whole, ended, held_unless, one_more, picked_unless}
+use Rattle.debugger.specs.Runs.{run_on, sweep_answer, swept_once}
 use Rattle.debugger.proofs.RunSteps.{closes, closes_here, fails, goes_on, more, next_round, round_swept}
 use Rattle.debugger.proofs.RunSteps.{runs_where_done, stops as stops_run}
 
@@ -88,7 +89,8 @@ module _ (bs : Breakpoints) (stops : Stops) (covers : Covers stops.marks.now bs)
   free_past : (f : Bool) (v : Recorded) → PicksPast stops v → held_unless f bs v ≡ None
   free_past true v past = refl
   free_past false v past =
-      ap (option_and_then {U = ℕ × ℕ} (λ t. option_map {U = ℕ × ℕ} (λ n. (n, t)) (option_and_then (least_at bs) (place_of v t))))
+      ap (option_and_then {U = ℕ × ℕ}
+      (λ t. option_map {U = ℕ × ℕ} (λ n. (n, t)) (option_and_then (least_at bs) (place_of v t))))
       past.1
       ∙ by (place_of v past.0) past.2
     where
@@ -258,7 +260,8 @@ module _ (bs : Breakpoints) (stops : Stops) (made n turns : ℕ) (begun : Bool) 
     module _ (was_done : done ≡ true) (end : Recorded) (told : Turn) {swept : Bool} (sweeps : end ≡ swept_once after)
         (tells : told ≡ sweep_answer after) (swept_is : swept ≡ is_done told) where
       was_done_there : is_done (picked_answer x 0) ≡ true
-      was_done_there = sym (done_there bs stops covers_bs begun x w picks) ∙ ap is_done (sym answers) ∙ sym done_is ∙ was_done
+      was_done_there =
+          sym (done_there bs stops covers_bs begun x w picks) ∙ ap is_done (sym answers) ∙ sym done_is ∙ was_done
 
       end_is : end ≡ swept_once (picked x 0)
       end_is = sweeps ∙ ap swept_once after_is
@@ -272,7 +275,8 @@ module _ (bs : Breakpoints) (stops : Stops) (made n turns : ℕ) (begun : Bool) 
           ∙ ap (λ (t : Turn). ended (swept_once (picked x 0)) (made + n + 1) (ByTurn t)) told_is
           ∙ closes (made + n) 1 (swept_once (picked x 0)) (ByTurn (sweep_answer (picked x 0)))
           (run_on bs first (suc k) x) total
-          (stops_run bs first k x running unheld was_done_there (ap is_done (sym told_is) ∙ sym swept_is ∙ unswept)) leads_there
+          (stops_run bs first k x running unheld was_done_there (ap is_done (sym told_is) ∙ sym swept_is ∙ unswept))
+          leads_there
 
       pub round_ends : swept ≡ true
           → more (made + n + 1) (run_on bs (nat_eq (made + n + 1) 0) (turns - (made + n + 1)) end) ≡ total
@@ -282,4 +286,5 @@ module _ (bs : Breakpoints) (stops : Stops) (made n turns : ℕ) (begun : Bool) 
           ap (λ (y : Recorded). more (made + n + 1) (run_on bs (nat_eq (made + n + 1) 0) k y)) end_is
           ∙ ap (λ b. more (made + n + 1) (run_on bs b k (swept_once (picked x 0)))) later
           ∙ goes_on (made + n) (run_on bs false k (swept_once (picked x 0))) (run_on bs first (suc k) x) total
-          (next_round bs first k x running unheld was_done_there (ap is_done (sym told_is) ∙ sym swept_is ∙ was_swept)) leads_there
+          (next_round bs first k x running unheld was_done_there (ap is_done (sym told_is) ∙ sym swept_is ∙ was_swept))
+          leads_there

@@ -31,7 +31,8 @@ returns-then-not-is_done c =
     let bs = c.args.breakpoints.now.slots in
     let quick = c.rounds_past-quick in
     let led = quick.ensures.rounds in
-    turn_ends bs c.stops.result c.turns.made quick.result.made c.args.turns quick.result.begun c.turns.world led.0 quick.new.self
+    turn_ends bs c.stops.result c.turns.made quick.result.made c.args.turns quick.result.begun c.turns.world led.0
+    quick.new.self
     (run_for bs c.args.turns c.args.world.now) c.stops.ensures c.marks_of-marks.ensures c.are_whole.ensures
     c.if-are_whole.false c.status.ensures c.is_running.ensures c.if-not-is_running.false c.held_unless.ensures
     c.in_default.is c.turns-test.true quick.ensures.most quick.ensures.begun led.1 led.2 c.turns.invariant.leads
@@ -43,7 +44,8 @@ returns-then-not-is_done-2 c =
     let bs = c.args.breakpoints.now.slots in
     let quick = c.rounds_past-quick in
     let led = quick.ensures.rounds in
-    sweep_ends bs c.stops.result c.turns.made quick.result.made c.args.turns quick.result.begun c.turns.world led.0 quick.new.self
+    sweep_ends bs c.stops.result c.turns.made quick.result.made c.args.turns quick.result.begun c.turns.world led.0
+    quick.new.self
     (run_for bs c.args.turns c.args.world.now) c.stops.ensures c.marks_of-marks.ensures c.are_whole.ensures
     c.if-are_whole.false c.status.ensures c.is_running.ensures c.if-not-is_running.false c.held_unless.ensures
     c.in_default.is c.turns-test.true quick.ensures.most quick.ensures.begun led.1 led.2 c.turns.invariant.leads
@@ -58,10 +60,14 @@ turns-preserved c =
     let quick = c.rounds_past-quick in
     let led = quick.ensures.rounds in
     record {
-      few = omega (arith, some_left c.turns.made quick.result.made c.args.turns quick.result.begun
-          (sym c.are_whole.ensures ∙ c.if-are_whole.false) c.turns-test.true quick.ensures.most quick.ensures.begun);
+      few = omega (
+        arith,
+        some_left c.turns.made quick.result.made c.args.turns quick.result.begun
+            (sym c.are_whole.ensures ∙ c.if-are_whole.false) c.turns-test.true quick.ensures.most quick.ensures.begun,
+      );
       leads =
-          round_ends bs c.stops.result c.turns.made quick.result.made c.args.turns quick.result.begun c.turns.world led.0 quick.new.self
+          round_ends bs c.stops.result c.turns.made quick.result.made c.args.turns quick.result.begun c.turns.world led.0
+          quick.new.self
           (run_for bs c.args.turns c.args.world.now) c.stops.ensures c.marks_of-marks.ensures c.are_whole.ensures
           c.if-are_whole.false c.status.ensures c.is_running.ensures c.if-not-is_running.false c.held_unless.ensures
           c.in_default.is c.turns-test.true quick.ensures.most quick.ensures.begun led.1 led.2 c.turns.invariant.leads

@@ -12,9 +12,11 @@ loop-made-preserved c =
     let p = c.args.pace in
     let mid = c.turn_past.new.self in
     let new = c.collect.new.self in
-    let turn = subst (λ b. PickedPast p.stops at.self p.worker b mid) c.if-not-turn_past.false c.turn_past.ensures.turn in
-    let round = round-past p.stops at.self mid new p.worker p.gc turn (c.may_sweep.ensures.runs c.if-not-may_sweep.false)
-    (c.may_sweep.ensures.room c.if-not-may_sweep.false) c.collect.ensures.world in
+    let turn = subst (λ b. PickedPast p.stops at.self p.worker b mid) c.if-not-turn_past.false
+    c.turn_past.ensures.turn in
+    let round = round-past p.stops at.self mid new p.worker p.gc turn
+    (c.may_sweep.ensures.runs c.if-not-may_sweep.false) (c.may_sweep.ensures.room c.if-not-may_sweep.false)
+    c.collect.ensures.world in
     let more : suc at.made ≡ at.made + 1 = omega arith in
     record {
       workers = c.collect.ensures.workers ∙ c.turn_past.ensures.workers ∙ at.invariant.workers;
