@@ -12,7 +12,7 @@ returns-clause-rounds c =
     let worker = c.first_worker-worker.result in
     let none = c.rounds_at_pace-rounds in
     let made = c.rounds_one_by_one in
-    let zero : none.result.made ≡ 0 = omega (arith, c.if-made-gt0.false) in
-    let same = led-nowhere stops v none.new.self worker gc none.result zero c.if-begun.false none.ensures.past in
+    let zero : none.result.made ≡ 0 = omega (arith, c.if-rounds-gt0.false) in
+    let same = led-nowhere stops v none.new.self worker gc none.result zero c.if-rounds.false none.ensures.past in
     subst (λ (n : ℕ). LeadsPast stops v n gc made.result made.new.self) c.first_worker-worker.ensures.first
     (subst (λ (x : Recorded). LeadsPast stops x worker gc made.result made.new.self) same made.ensures.rounds)
