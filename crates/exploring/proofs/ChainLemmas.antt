@@ -102,10 +102,17 @@ one_more_is c x [] e = absurd e
 one_more_is c x (y ∷ ys) e =
     let pieces = entry_keeps bytes_eq c.pieces x in
     let links = entry_keeps is_same c.links c.last in
-    let new = one_more c x in
-    (entered bytes_eq same_bytes c.pieces x, (position_or_len (is_same c.last) c.links, c.last, refl,
-    entered is_same same_link c.links c.last, pieces c.last.piece y e.0,
-    before_kept c.pieces new.pieces c.links new.links pieces links ys c.last.before e.1))
+    let new = one_more c x in (
+      entered bytes_eq same_bytes c.pieces x,
+      (
+        position_or_len (is_same c.last) c.links,
+        c.last,
+        refl,
+        entered is_same same_link c.links c.last,
+        pieces c.last.piece y e.0,
+        before_kept c.pieces new.pieces c.links new.links pieces links ys c.last.before e.1,
+      ),
+    )
 
 -- the pieces with those that were added, the last one first
 abbrev pub onto : List (List ℕ) → List (List ℕ) → List (List ℕ)

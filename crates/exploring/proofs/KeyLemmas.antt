@@ -105,6 +105,7 @@ wide_back n m s t e = by (nat_lt n 65536) (nat_lt m 65536) e
     by false false k = large_back n m s t k
 
 pub number_back : IsReadBack number
+unfolding number
 number_back n m s t e = by (nat_lt n 253) (nat_lt m 253) refl refl e
   where
     small : (n : ℕ) → nat_lt n 253 ≡ true → 253 ≤ n → ⊥
@@ -364,16 +365,18 @@ module _ (table : List (List ℕ)) where
 heads : (v w : World) → Tells (head v) (head w) ((length v.statics.fields ≡ length w.statics.fields)
     × (length v.objects ≡ length w.objects) × (v.statics.states ≡ w.statics.states) × (v.output ≡ w.output)
     × (v.fault ≡ w.fault) × (v.rows ≡ w.rows))
-heads v w = record { told = λ s t e. (
-  let counts = and_then _ _ _ _ (numbers (length v.statics.fields) (length w.statics.fields))
-  (numbers (length v.objects) (length w.objects)) in
-  let states = and_then _ _ _ _ counts (of_part (each state) (each_back state state_back) v.statics.states w.statics.states) in
-  let output = and_then _ _ _ _ states (of_part bytes bytes_back v.output w.output) in
-  let faults = and_then _ _ _ _ output (of_part fault fault_back v.fault w.fault) in
-  let all = (and_then _ _ _ _ faults (numbers v.rows w.rows)).told s t e in
-  let k = all.0 in
-  ((k.0.0.0.0.0, k.0.0.0.0.1, k.0.0.0.1, k.0.0.1, k.0.1, k.1), all.1)
-); }
+heads v w = record {
+  told = λ s t e. (
+      let counts = and_then _ _ _ _ (numbers (length v.statics.fields) (length w.statics.fields))
+      (numbers (length v.objects) (length w.objects)) in
+      let states = and_then _ _ _ _ counts (of_part (each state) (each_back state state_back) v.statics.states w.statics.states) in
+      let output = and_then _ _ _ _ states (of_part bytes bytes_back v.output w.output) in
+      let faults = and_then _ _ _ _ output (of_part fault fault_back v.fault w.fault) in
+      let all = (and_then _ _ _ _ faults (numbers v.rows w.rows)).told s t e in
+      let k = all.0 in
+      ((k.0.0.0.0.0, k.0.0.0.0.1, k.0.0.0.1, k.0.0.1, k.0.1, k.1), all.1)
+      );
+}
 
 -- a piece for each
 module _ {A : Type 0} (part : A → List ℕ) (back : IsReadBack part) where
@@ -389,16 +392,26 @@ module _ {A : Type 0} (part : A → List ℕ) (back : IsReadBack part) where
   some_pieces : (xs ys : List A) (s t : List (List ℕ)) → length xs ≡ length ys → map part xs ++ s ≡ map part ys ++ t
       → (xs ≡ ys) × (s ≡ t)
   some_pieces xs ys s t k e =
-      let both = raw_back (map part xs) (map part ys) s t (length-map part xs ∙ k ∙ sym (length-map part ys)) e in
+      let both = raw_back (map part xs) (map part ys) s t (length-map xs part ∙ k ∙ sym (length-map ys part)) e in
       (each_piece xs ys both.0, both.1)
+
+-- two rows after another
+apart : (xs ys zs us vs ws : List (List ℕ)) → xs ++ ys ++ zs ≡ us ++ vs ++ ws → xs ++ (ys ++ zs) ≡ us ++ (vs ++ ws)
+apart xs ys zs us vs ws e = sym (append_assoc xs ys zs) ∙ e ∙ append_assoc us vs ws
 
 pub pieces_tell : PiecesTell
 pieces_tell table v w e =
     let first : head v ≡ head w = cc in
     let after : rest table v ≡ rest table w = cc in
     let k = ((heads v w).told [] [] (ap (λ xs. xs ++ []) first)).0 in
-    let fields = some_pieces (field table) (field_back table) v.statics.fields w.statics.fields _ _ k.0 after in
-    let objects = some_pieces (object table) (object_back table) v.objects w.objects _ _ k.1 fields.1 in
+    let objects_v = map (object table) v.objects in
+    let objects_w = map (object table) w.objects in
+    let threads_v = map (thread table) v.threads in
+    let threads_w = map (thread table) w.threads in
+    let fields = some_pieces (field table) (field_back table) v.statics.fields w.statics.fields (objects_v ++ threads_v)
+    (objects_w ++ threads_w) k.0 (apart (map (field table) v.statics.fields) objects_v threads_v
+    (map (field table) w.statics.fields) objects_w threads_w after) in
+    let objects = some_pieces (object table) (object_back table) v.objects w.objects threads_v threads_w k.1 fields.1 in
     let threads = each_piece (thread table) (thread_back table) v.threads w.threads objects.1 in
     rw (threads, fields.0, k.2, k.3, objects.0, k.4, k.5) refl
 

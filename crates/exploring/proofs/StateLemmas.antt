@@ -36,7 +36,7 @@ module _ (table : List (List ℕ)) (old new : Chains) (w : World) (is : new ≡ 
   made =
       let c = with_state table old w in
       let turned : onto (head w ∷ []) (rest table w) ≡ reverse (pieces table w) =
-        onto_is (rest table w) (head w ∷ []) ∙ sym (reverse-append (head w ∷ []) (rest table w)) in
+      onto_is (rest table w) (head w ∷ []) ∙ sym (reverse-append (head w ∷ []) (rest table w)) in
       subst (λ (d : Chains). IsKey table d d.last w) (sym is) (subst (IsChain c.pieces c.links c.last) turned
       (chained_is (rest table w) begun (head w ∷ []) (start_is old (head w))))
 
@@ -80,23 +80,24 @@ module _ (table : List (List ℕ)) (c : Chains) (l : Link) (w : World) (key : Is
   one_more (k ∷ ks) [] e = absurd e
   one_more (k ∷ ks) (v ∷ vs) e = (e.0, one_more ks vs e.1)
 
-pub adds_state : (old new : Stored) (c : Chains) (w : World) (fresh : Bool) → c ≡ with_state old.table old.chains w
-    → new ≡ record { table = old.table; chains = c; keys = insert_key is_same old.keys c.last }
-    → fresh ≡ not (list_any (is_same c.last) old.keys) → (states : List World) → HasStates old states
+pub adds_state : (old new : Stored) (c : Chains) (l : Link) (w : World) (fresh : Bool)
+    → c ≡ with_state old.table old.chains w → l ≡ c.last
+    → new ≡ record { table = old.table; chains = c; keys = insert_key is_same old.keys l }
+    → fresh ≡ not (list_any (is_same l) old.keys) → (states : List World) → HasStates old states
     → AddsState new states w fresh
-adds_state old new c w fresh made_so is known states has =
-    rw (known, is) (by (list_any (is_same c.last) old.keys) refl)
+adds_state old new c l w fresh made_so last is known states has =
+    rw (known, is) (by (list_any (is_same l) old.keys) refl)
   where
-    its : IsKey old.table c c.last w
-    its = made old.table old.chains c w made_so
+    its : IsKey old.table c l w
+    its = subst (λ (m : Link). IsKey old.table c m w) (sym last) (made old.table old.chains c w made_so)
 
     stay : AreKeys old.table c old.keys states
     stay = keys_stay old.table old.chains c w made_so old.keys states has
 
-    by : (there : Bool) → list_any (is_same c.last) old.keys ≡ there → AddsState (record {
+    by : (there : Bool) → list_any (is_same l) old.keys ≡ there → AddsState (record {
       table = old.table;
       chains = c;
-      keys = if there then old.keys else old.keys ++ c.last ∷ [];
+      keys = if there then old.keys else old.keys ++ l ∷ [];
     }) states w (not there)
-    by true h = (stay, one_of old.table c c.last w its old.keys states stay h)
-    by false h = one_more old.table c c.last w its old.keys states stay
+    by true h = (stay, one_of old.table c l w its old.keys states stay h)
+    by false h = one_more old.table c l w its old.keys states stay

@@ -42,7 +42,7 @@ large_number n = if nat_lt n 4294967296 then 254 ∷ four n else 255 ∷ eight n
 abbrev pub wide_number : ℕ → List ℕ
 wide_number n = if nat_lt n 65536 then 253 ∷ two n else large_number n
 
-abbrev pub number : ℕ → List ℕ
+unfoldable pub number : ℕ → List ℕ
 number n = if nat_lt n 253 then n ∷ [] else wide_number n
 
 -- ints and longs as numbers: 0, -1, 1, -2, 2 ..

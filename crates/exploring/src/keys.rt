@@ -162,6 +162,7 @@ impl Key {
         }
     }
 
+    #[tactic(auto, unfolding(crate::specs::Keys::number))]
     fn add_number(&mut self, n: u64) -> Result<(), AllocError>
         ensures { OnOk result (self.new ≡ self.old ++ number n) }
     {

@@ -17,7 +17,8 @@ returns c =
       chains = c.add_state.new.chains;
       keys = c.insert_full.new.self.keys;
     } in
-    adds_state old new c.add_state.new.chains c.args.state.now c.in_ok-new.new c.in_ok-add_state.ensures
+    adds_state old new c.add_state.new.chains c.last_link-key.result c.args.state.now c.in_ok-new.new
+    c.in_ok-add_state.ensures c.last_link-key.ensures
     (ap (λ (ks : List Link). let s : Stored = record {
       table = c.self.inside.names;
       chains = c.add_state.new.chains;
