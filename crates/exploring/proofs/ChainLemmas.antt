@@ -1,5 +1,5 @@
-use Rattle.std.proofs.Common.{◌≡◌, ℕ, zero, suc, ◌+◌, arith, List, [], ◌∷◌, ◌++◌, reverse, slice_get, Bool, true, false, not, ◌||◌, ◌&&◌}
-use Rattle.std.proofs.Common.{cond, if◌then◌else◌, nat_eq, eqb, Some, refl, sym, ◌∙◌, ap, ap₂, subst}
+use Rattle.std.proofs.Common.{◌≡◌, ℕ, zero, suc, ◌+◌, arith, List, [], ◌∷◌, ◌++◌, slice_get, Bool, true, false, not, ◌||◌}
+use Rattle.std.proofs.Common.{cond, if◌then◌else◌, eqb, Some, refl, sym, ◌∙◌, ap, subst}
 use Rattle.std.specs.List.{list_any, position_or_len}
 use Rattle.std.specs.Str.{bytes_eq}
 use Rattle.std.proofs.lemmas.Bool.{eqb-true, and_parts}

@@ -6,7 +6,7 @@ use Rattle.std.specs.Str.{bytes_eq}
 use Rattle.indexmap.specs.IndexSet.{insert_key}
 use Rattle.model.specs.Worlds.{World}
 use Rattle.exploring.specs.declared.chains.Link.{Link}
-use Rattle.exploring.specs.Chains.{Chains, IsChain, chained, is_same, started}
+use Rattle.exploring.specs.Chains.{Chains, IsChain, is_same, started}
 use Rattle.exploring.specs.Keys.{head, pieces, rest}
 use Rattle.exploring.specs.States.{AddsState, AreKeys, HasStates, IsKey, IsOneOf, KeysTell, Stored, with_state}
 use Rattle.exploring.proofs.ChainLemmas.{Keeps, chain_kept, chain_tells, chained_is, chained_links, chained_pieces}

@@ -6,7 +6,7 @@ use Rattle.exploring.specs.declared.chains.Link.{Link}
 
 -- Chains of pieces, which share what they begin with. A piece is a row of bytes; it and a link are known by their numbers.
 
--- the pieces, the links, and the last link of the chain that is being made, which isn't yet among them
+-- the pieces, the links, and the last link of the chain that is being made, which is kept once the chain goes on
 pub record Chains : Type 0 where
   pub pieces : List (List ℕ)
   pub links : List Link

@@ -17,8 +17,8 @@ pub struct Link {
     pub piece: u32,
 }
 
-/// Pieces, each once; links, each once; and the last link of the chain that is being made, which isn't yet among them. A
-/// contract sees all three.
+/// Pieces, each once; links, each once; and the last link of the chain that is being made, which is kept among them once
+/// the chain goes on. A contract sees all three.
 #[derive(Drop)]
 pub struct Chains {
     pieces: IndexSet<Key>,
@@ -103,7 +103,7 @@ impl Chains {
         Ok(())
     }
 
-    /// The chain's last link. So far it's known of no other chain.
+    /// The last link of the chain, by which it's known.
     pub fn last_link(&self) -> Link
         ensures { result ≡ self.now.last }
     {

@@ -8,7 +8,8 @@ ghost use Rattle.std.specs.Cmp.Rules.{hashing};
 ghost use Rattle.std.proofs.Common.{rules};
 ghost use Rattle.std.proofs.lemmas.Cmp.{nat_list_eq_equiv};
 ghost use Rattle.model.specs.Views.{contents_in};
-ghost use Rattle.exploring.specs.Keys.{two, four, eight, large_number, wide_number, number, folded, integer, perhaps, each, bytes, name_at};
+ghost use Rattle.exploring.specs.Keys.{two, four, eight, large_number, wide_number, number, folded, integer, perhaps, each};
+ghost use Rattle.exploring.specs.Keys.{bytes, name_at};
 ghost use Rattle.exploring.specs.Keys.{value, entry, mark, frame, state, fault, name, field, contents, object, thread, head};
 ghost use Rattle.exploring.specs.Keys.{end, status, outcome};
 
