@@ -1,7 +1,7 @@
 //! The command line.
 ghost use Rattle.std.specs.Prelude.{◌≡◌, ◌<◌, ◌≤◌, IfOk, IfSome, IsTrue, length, unwrap_or};
 ghost use Rattle.clap.specs.Words.{found_of};
-ghost use Rattle.commands.specs.Commands.{IsPartCount, HasFiles, InRange};
+ghost use Rattle.commands.specs.Commands.{HasFiles, InRange, IsPartCount};
 ghost use Rattle.commands.specs.Numbers.{HasBounds, HasLimits, HasNumbers, IsNumber};
 ghost use Rattle.model.specs.Limits.{LimitsFit};
 

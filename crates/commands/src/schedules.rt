@@ -373,10 +373,10 @@ fn transitions_of(alloc: Global, begun: &Beginning) -> Result<Transitions<'_>, E
 /// The end of an exploration after turns of which one is refused.
 fn turn_refused(alloc: Global, begun: &Beginning) -> Ending {
     match made_first(alloc, begun.program(), begun.limits, &begun.first) {
-        Ok(made) => Ending::reported(
-            Exit::Refused,
-            format!(in alloc; "turns N5 at row {}", made + 1),
-        ),
+        Ok(made) => {
+            let row = made.saturating_add(1);
+            Ending::reported(Exit::Refused, format!(in alloc; "turns N5 at row {row}"))
+        }
         Err(_) => Ending::memory(),
     }
 }
@@ -440,7 +440,8 @@ fn write_parts<F: Files, W: Write>(
             &part.moves,
         )?;
     }
-    let line = format!(in alloc; "parts {}\n", parts.len())?;
+    let count = parts.len();
+    let line = format!(in alloc; "parts {count}\n")?;
     write_text(alloc, line.as_bytes(), output)
 }
 
