@@ -304,8 +304,8 @@ def divided_otherwise(jvm, folder, files, no_room, parts):
         if (status, said) != (0, b""):
             return f"{name}: status {status}, {said!r}"
         reports.append(report_of(text))
-    got = sorted(outcome for outcome, _ in merged(reports)[0])
-    wanted = sorted(outcome for outcome, _ in report_of(whole)[0])
+    got = {outcome for outcome, _ in merged(reports)[0]}
+    wanted = {outcome for outcome, _ in report_of(whole)[0]}
     return None if got == wanted else f"the parts have {got}, and the whole {wanted}"
 
 

@@ -30,7 +30,7 @@ import tempfile
 from answers import tried_answers
 from damaged import tried_damaged
 from debug_agrees import classes_of, tried_debugger
-from explore_agrees import OUTPUT, difference as explored_otherwise, tried_explorer
+from explore_agrees import OUTPUT, difference as explored_otherwise, divided_otherwise, tried_explorer
 from failing_streams import tried_failures
 from limits import tried_limits
 from memory_refused import tried_refusals
@@ -187,6 +187,9 @@ def tried_explored(jvm, room):
         os.makedirs(folder := f"{room}/witnesses/{title}")
         found = explored(classes, OUTPUT, no_room)
         yield f"explore/{title}, beside the plain explorer", explored_otherwise(jvm, folder, files, classes, no_room, found)
+        for parts in (1, 2, 7):
+            os.makedirs(folder := f"{room}/parts/{title}/{parts}")
+            yield f"explore/{title}, in {parts} parts at most", divided_otherwise(jvm, folder, files, no_room, parts)
 
 
 def tried_merged(jvm, room):
