@@ -337,7 +337,7 @@ fn after_turns<F: Files>(
 }
 
 /// Where an exploration begins: at the opening, or after the turns of a text, or after the run of a journal.
-fn beginning<F: Files>(
+fn begin<F: Files>(
     alloc: Global,
     options: &ExploreOptions,
     files: &mut F,
@@ -504,7 +504,7 @@ pub fn explored<F: Files, W: Write, P: Watch>(
     output: &mut W,
     watch: &mut P,
 ) -> Result<Ending, Ending> {
-    let begun = beginning(alloc, options, files)?;
+    let begun = begin(alloc, options, files)?;
     match options.split {
         Some(most) => split_up(alloc, &begun, options, most, files, output),
         None => reported(alloc, &begun, options, files, output, watch),
