@@ -8,6 +8,7 @@ The plain explorer (tools/plain/explorer.py) makes each turn of each thread of e
 
 - the report is complete, and its outcomes are those that the plain explorer finds, none more and none less;
 - no witness is shorter than the plain explorer's, which is a shortest one;
+- divided into parts, it has the same outcomes, and each part that is a journal replays;
 - each witness is a journal that replays to its outcome, or, where a cell has to be missing, turns that lead to it on the plain machine;
 - each outcome that N random schedules come to, on a small heap with its collector, is one of those that `--no-room` reports.
 
@@ -24,6 +25,7 @@ import sys
 import tempfile
 
 from debug_agrees import classes_of
+from merge_reports import merged, report_of
 from plain.explorer import Ideal, Outcome, Seen, explored
 
 ROOT = os.path.join(os.path.dirname(os.path.abspath(__file__)), "..")
@@ -196,27 +198,18 @@ def made_up(dice, room):
 
 # ---- what `jvm explore` reports
 
-HOW, ENDS = rb"(finished|stuck|output limit|fault F(\d+) in thread (\d+))", rb"((?:thread \d+ ended by [^\n]*\n)*)"
-HEADS = re.compile(rb"outcome (\d+): " + HOW + rb"\n" + ENDS + rb"turns (\d+)\noutput (\d+)\n")
-LAST = re.compile(rb"explored (\d+) states, (\d+) turns: (complete|cut off: (?:states|memory|depth))\n")
-
-
 def read_report(text):
-    """The outcomes of a report, each with how many turns its witness has, and the last line's parts."""
-    outcomes, at = [], 0
-    while head := HEADS.match(text, at):
-        number, how, fault, thread, ends, turns, size = head.groups()
-        if int(number) != len(outcomes) + 1:
-            raise ValueError(f"outcome {number.decode()} after {len(outcomes)}")
-        output = text[head.end():head.end() + int(size)]
-        at = head.end() + int(size) + (output[-1:] not in (b"", b"\n"))
-        ended = {int(number): name.decode() for number, name in re.findall(rb"thread (\d+) ended by ([^\n]*)\n", ends)}
-        seen = Shown("faulted" if fault else how.decode(), (int(fault), int(thread)) if fault else None, tuple(ended.items()), output)
-        outcomes.append((seen, int(turns)))
-    last = LAST.fullmatch(text, at)
-    if not last:
-        raise ValueError(f"this is no end of a report: {text[at:at + 200]!r}")
-    return outcomes, last.groups()
+    """The outcomes of a report, each with how many turns its witness has, and how it ended."""
+    outcomes, _, _, how = report_of(text)
+    return [(shown_of(*outcome), turns) for outcome, turns in outcomes], how
+
+
+def shown_of(how, ends, output):
+    """An outcome of a report."""
+    fault = re.fullmatch(rb"fault F(\d+) in thread (\d+)", how)
+    ended = tuple((int(number), name.decode()) for number, name in re.findall(rb"thread (\d+) ended by ([^\n]*)\n", ends))
+    at_fault = (int(fault[1]), int(fault[2])) if fault else None
+    return Shown("faulted" if fault else how.decode(), at_fault, ended, output)
 
 
 class Shown(Outcome):
@@ -274,7 +267,7 @@ def difference(jvm, folder, files, classes, no_room, found):
     status, text, said = shown(words)
     if (status, said) != (0, b""):
         return f"status {status}, {said!r}"
-    outcomes, (_, _, how) = read_report(text)
+    outcomes, how = read_report(text)
     wanted, least = {}, {}
     for outcome, pairs in found.outcomes.items():
         wanted[told(outcome)] = wanted.get(told(outcome), 0) + 1
@@ -291,6 +284,29 @@ def difference(jvm, folder, files, classes, no_room, found):
         if why:
             return why
     return None
+
+
+def divided_otherwise(jvm, folder, files, no_room, parts):
+    """How the outcomes of the parts of an exploration differ from those of the whole, or nothing."""
+    within = ["--output", str(OUTPUT), *["--no-room"] * no_room]
+    status, whole, said = shown([jvm, "explore", *within, *files])
+    divided, told_of, wrong = shown([jvm, "explore", *within, "--split", str(parts), "--witnesses", folder, *files])
+    if (status, said, divided, wrong) != (0, b"", 0, b""):
+        return f"statuses {status} and {divided}, {said!r}, {wrong!r}"
+    written = sorted(os.listdir(folder))
+    if told_of != f"parts {len(written)}\n".encode() or len(written) > parts:
+        return f"{told_of!r} of {parts}, and {written}"
+    reports = []
+    for name in written:
+        if name.endswith(".journal") and shown([jvm, "replay", f"{folder}/{name}", *files])[0] not in (0, 1, 3, 4, 5):
+            return f"{name} is no journal"
+        status, text, said = shown([jvm, "explore", *within, "--from", f"{folder}/{name}", *files])
+        if (status, said) != (0, b""):
+            return f"{name}: status {status}, {said!r}"
+        reports.append(report_of(text))
+    got = {outcome for outcome, _ in merged(reports)[0]}
+    wanted = {outcome for outcome, _ in report_of(whole)[0]}
+    return None if got == wanted else f"the parts have {got}, and the whole {wanted}"
 
 
 def scheduled(dice, classes):
@@ -317,6 +333,8 @@ def tried(jvm, room, count, seed, schedules):
             name = f"program {number} of seed {seed}" + " without room" * no_room
             try:
                 yield name, difference(jvm, witnesses, files, classes, no_room, found[no_room]), files
+                os.mkdir(divided := f"{folder}/parts{int(no_room)}")
+                yield f"parts of {name}", divided_otherwise(jvm, divided, files, no_room, dice.choice([1, 2, 5, 16])), files
             except ValueError as wrong:
                 yield name, str(wrong), files
         met = {it for it in (scheduled(dice, classes) for _ in range(schedules)) if it} - set(found[True].outcomes)

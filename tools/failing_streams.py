@@ -168,6 +168,7 @@ def commands(jvm, room):
     yield [jvm, "--version"], None, b""
     yield [jvm, "run", "--steps", "many", texts[0]], None, b""
     yield [jvm, "explore", "--witnesses", room, texts[0]], f"{room}/1.journal", b""
+    yield [jvm, "explore", "--from", file["journal"], "--split", "2", "--witnesses", room, texts[0]], f"{room}/1.journal", b""
     yield [jvm, "debug", texts[0]], None, TYPED
 
 
@@ -280,6 +281,8 @@ def files(jvm, room):
         yield ["run", text, bad, none], f"read {bad}"
         yield ["debug", bad], f"read {bad}"
         yield ["explore", bad], f"read {bad}"
+        yield ["explore", "--from", bad, text], f"read {bad}"
+        yield ["explore", "--from", file["journal"], bad], f"read {bad}"
         yield ["replay", bad, text], f"read {bad}"
         yield ["replay", file["journal"], bad], f"read {bad}"
         yield ["upgrade", bad, f"{room}/x"], f"read {bad}"
@@ -320,7 +323,7 @@ def tried_failures(jvm, room):
     sum_, class_, journal = f"{EXAMPLES}/sum.j", f"{room}/E.class", f"{room}/sum.journal"
     subprocess.run([jvm, "run", "--journal", journal, sum_], stdout=subprocess.DEVNULL, check=True)
     for words in (["dis", class_], ["run", sum_], ["run", "--carriers", "2", sum_], ["replay", journal, sum_], ["debug", sum_],
-                  ["explore", sum_], ["explain"],
+                  ["explore", sum_], ["explore", "--split", "2", "--witnesses", room, sum_], ["explain"],
                   ["explain", "J5"], ["--help"], ["run", "--help"], ["--version"]):
         yield f"an output that can't be written: {title(['', *words], room)}", outputs([jvm, *words], b"stack 0\nquit\n")
     for words in (["asm", f"{room}/bad.j", f"{room}/x"], ["dis", sum_], ["run", "--steps", "4", sum_], ["replay", sum_, sum_],

@@ -28,7 +28,7 @@ import tempfile
 from answers import tried_answers
 from damaged import tried_damaged
 from debug_agrees import classes_of, tried_debugger
-from explore_agrees import OUTPUT, difference as explored_otherwise, tried_explorer
+from explore_agrees import OUTPUT, difference as explored_otherwise, divided_otherwise, tried_explorer
 from failing_streams import tried_failures
 from limits import tried_limits
 from memory_refused import tried_refusals
@@ -185,6 +185,23 @@ def tried_explored(jvm, room):
         os.makedirs(folder := f"{room}/witnesses/{title}")
         found = explored(classes, OUTPUT, no_room)
         yield f"explore/{title}, beside the plain explorer", explored_otherwise(jvm, folder, files, classes, no_room, found)
+        for parts in (1, 2, 7):
+            os.makedirs(folder := f"{room}/parts/{title}/{parts}")
+            yield f"explore/{title}, in {parts} parts at most", divided_otherwise(jvm, folder, files, no_room, parts)
+
+
+def tried_merged(jvm, room):
+    """What tools/merge_reports.py makes of reports, and its statuses."""
+    merge, report = [sys.executable, f"{ROOT}/tools/merge_reports.py"], f"{EXAMPLES}/explore/race.txt"
+    with open(report, "rb") as file:
+        whole = file.read()
+    with open(cut := f"{room}/cut.txt", "wb") as file:
+        file.write(b"outcome 1: stuck\nturns 9\noutput 0\nexplored 7 states, 8 turns: cut off: states\n")
+    yield "one report merged", None if run(*merge, report) == whole + b"status 0\n" else "it differs"
+    both = whole.replace(b"turns 11\n", b"turns 9\n").replace(b"54 states, 110 turns: complete", b"61 states, 118 turns: cut off: states")
+    yield "two reports merged", None if run(*merge, report, cut) == both + b"status 4\n" else "it differs"
+    for words, status in (([f"{EXAMPLES}/D.j"], b"2"), ([room + "/none"], b"6"), ([], b"7")):
+        yield f"merge_reports.py {words}", None if run(*merge, *words).endswith(b"status " + status + b"\n") else "its status"
 
 
 TRIED = (
@@ -199,6 +216,7 @@ TRIED = (
     tried_failures,
     tried_debugger,
     tried_explored,
+    tried_merged,
     tried_explorer,
     tried_reader,
     tried_damaged,

@@ -17,8 +17,8 @@ EXPLORE = os.path.join(ROOT, "docs", "EXPLORE.md")
 BY_CLAP = [
     ("asm a.j", 7), ("dis", 7), ("dis a b", 7), ("run --small many a.j", 7), ("walk a.j", 7),
     ("debug --gc 1 a.j", 7), ("debug --carriers 2 a.j", 7), ("debug --journal j a.j", 7), ("debug --small many a.j", 7),
-    ("explore --gc 1 a.j", 7), ("explore --small 4 a.j", 7), ("explore --states many a.j", 7), ("explore --help", 0),
-    ("debug --help", 0), ("--help", 0), ("--version", 0),
+    ("explore --gc 1 a.j", 7), ("explore --small 4 a.j", 7), ("explore --states many a.j", 7), ("explore --split many a.j", 7),
+    ("explore a.j --from", 7), ("explore --help", 0), ("debug --help", 0), ("--help", 0), ("--version", 0),
 ]
 # words that are no codes
 NO_CODES = ["", "J", "J0", "J05", "C12", "L13", "X1", "9", "j5", "F 1"]

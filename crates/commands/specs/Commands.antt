@@ -1,4 +1,4 @@
-use Rattle.std.specs.Prelude.{◌<◌, ◌≤◌, length}
+use Rattle.std.specs.Prelude.{◌<◌, ◌≤◌, ℕ, IfSome, length}
 use Rattle.commands.specs.declared.options.Command.{Command}
 use Rattle.commands.specs.declared.options.Command.TheVariants.{Run, Debug, Explore, Assemble, Disassemble, Replay, Upgrade}
 use Rattle.commands.specs.declared.options.Command.TheVariants.{Explain}
@@ -15,12 +15,17 @@ HasFiles (Replay options) = 0 < length options.files.items
 HasFiles (Upgrade options) = Unit {0}
 HasFiles (Explain code) = Unit {0}
 
+-- an exploration is divided into so many parts
+abbrev pub IsPartCount : ℕ → Type 0
+IsPartCount n = (1 ≤ n) × (n ≤ 65536)
+
 -- the numbers that no world tests lie in their ranges: how many turns the collector makes after one of a thread, how
--- many carriers there are, and how far an exploration goes
+-- many carriers there are, how far an exploration goes, and into how many parts it is divided
 abbrev pub InRange : Command → Type 0
 InRange (Run options) = (options.gc ≤ 1000) × (1 ≤ options.carriers) × (options.carriers ≤ 8)
 InRange (Debug options) = Unit {0}
 InRange (Explore options) = (1 ≤ options.states) × LimitsFit options.limits.steps options.limits.output
+    × IfSome options.split IsPartCount
 InRange (Assemble options) = Unit {0}
 InRange (Disassemble file) = Unit {0}
 InRange (Replay options) = Unit {0}

@@ -36,3 +36,4 @@ pub record HasBounds (words : Found) (options : ExploreOptions) : Type 0 where
   pub states : IsNumber words (codes "states") options.states
   pub steps : IsNumber words (codes "steps") options.limits.steps
   pub output : IsNumber words (codes "output") options.limits.output
+  pub split : IsNumber words (codes "split") (unwrap_or options.split 0)

@@ -86,3 +86,9 @@ impl Ending {
         }
     }
 }
+
+impl From<AllocError> for Ending {
+    fn from(_error: AllocError) -> Ending {
+        Ending::memory()
+    }
+}

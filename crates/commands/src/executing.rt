@@ -192,7 +192,7 @@ pub fn launched<F: Files>(
 }
 
 /// Writes these bytes to standard output.
-fn write_text<W: Write>(alloc: Global, bytes: &[u8], output: &mut W) -> Result<Ending, Ending> {
+pub fn write_text<W: Write>(alloc: Global, bytes: &[u8], output: &mut W) -> Result<Ending, Ending> {
     match output.write_all(bytes) {
         Ok(()) => Ok(Ending::good()),
         Err(_) => Err(Ending::reported(Exit::System, format!(in alloc; "cannot write -"))),

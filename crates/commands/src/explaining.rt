@@ -323,7 +323,8 @@ fn journal_meaning(number: u32) -> Option<&'static str> {
             "A journal's last line is not `end` and the number of its rows, or something follows it.\n\
              Example: a journal that was cut.\n\
              Make the run again with `--journal`.\n",
-        5 => "A row of a journal is not what the program does: its turn has another outcome.\n\
+        5 =>
+            "A row of a journal, or of turns, is not what the program does: its turn has another outcome or is refused.\n\
              Example: the journal of another program, or of an older build of it.\n\
              The row reported is the first one, counted from 1.\n",
         6 => "There was no memory for a journal. It is shown as `jvm: memory`, with status 6.\n\
@@ -369,7 +370,7 @@ fn status_meaning(number: u32) -> Option<&'static str> {
              Example: `jvm: thread 0 ended by java/lang/ArithmeticException`.\n\
              Catch it by a `.catch` line, or mend what throws it.\n",
         2 =>
-            "The input was refused: a text, a class file, a program, a world's numbers or a journal.\n\
+            "The input was refused: a text, a class file, a program, a world's numbers, a journal or turns.\n\
              Example: `jvm: sum.j: J5 at line 6`. Ask `jvm explain` for the code.\n",
         3 => "The program did what a verifier of class files would not let it do.\n\
              Example: `jvm: fault F1 in thread 0`. Ask `jvm explain` for the code.\n",

@@ -1,7 +1,7 @@
 //! The command line.
-ghost use Rattle.std.specs.Prelude.{◌≡◌, ◌<◌, ◌≤◌, IfOk, length};
+ghost use Rattle.std.specs.Prelude.{◌≡◌, ◌<◌, ◌≤◌, IfOk, IfSome, IsTrue, length, unwrap_or};
 ghost use Rattle.clap.specs.Words.{found_of};
-ghost use Rattle.commands.specs.Commands.{HasFiles, InRange};
+ghost use Rattle.commands.specs.Commands.{HasFiles, InRange, IsPartCount};
 ghost use Rattle.commands.specs.Numbers.{HasBounds, HasLimits, HasNumbers, IsNumber};
 ghost use Rattle.model.specs.Limits.{LimitsFit};
 
@@ -82,8 +82,12 @@ pub struct ExploreOptions {
     pub limits: Limits,
     /// whether each turn that asks for a cell is also made as if none were free
     pub no_room: bool,
-    /// the folder into which witnesses are written, if anywhere
+    /// the folder into which witnesses are written, if anywhere; and parts
     pub witnesses: Option<String>,
+    /// the journal of a run, or its turns, after which the exploration begins, if any
+    pub from: Option<String>,
+    /// into how many parts the exploration is divided at most, if it is divided and not made
+    pub split: Option<u32>,
     pub files: Vec<String>,
 }
 
@@ -197,6 +201,29 @@ fn witnesses_option<'a>(alloc: Global) -> Arg<'a> {
         )
 }
 
+/// The option of a run after which an exploration begins.
+fn from_option<'a>(alloc: Global) -> Arg<'a> {
+    Arg::new(alloc, "from")
+        .long("from")
+        .value_name("JOURNAL")
+        .help(
+            "explores what can follow the run of this journal, within its limits; also takes turns, as --witnesses and --split write them",
+        )
+}
+
+/// The option of parts.
+fn split_option<'a>(alloc: Global) -> Result<Arg<'a>, AllocError> {
+    Ok(
+        Arg::new(alloc, "split")
+            .long("split")
+            .value_name("N")
+            .value_parser(value_parser!(u32))
+            .help(
+                "writes at most N runs, 1 to 65536, after which --from can begin, so that together they explore the whole; into the folder of --witnesses, or this one",
+            ),
+    )
+}
+
 /// A line with one more option of a number.
 fn with_number<'a>(
     alloc: Global,
@@ -237,7 +264,9 @@ const DEBUG_COMMANDS: &str = "Commands, one a line:\n  \
 /// What `jvm explore --help` ends with.
 const EXPLORE_EXAMPLES: &str = "Examples:\n  \
     jvm explore examples/D.j\n  \
-    jvm explore --no-room --witnesses /tmp examples/explore/room.j";
+    jvm explore --no-room --witnesses /tmp examples/explore/room.j\n  \
+    jvm explore --split 8 --witnesses /tmp examples/D.j\n  \
+    jvm explore --from /tmp/1.journal examples/D.j";
 
 /// A line with the options that say how much there is of everything.
 fn with_limits<'a>(alloc: Global, line: Line<'a>) -> Result<Line<'a>, AllocError> {
@@ -297,6 +326,8 @@ fn explore_line<'a>(alloc: Global) -> Result<Line<'a>, AllocError> {
     let line = with_number(alloc, line, "output", "4096", "bytes that may be printed")?;
     line.arg(no_room_option(alloc))?
         .arg(witnesses_option(alloc))?
+        .arg(from_option(alloc))?
+        .arg(split_option(alloc)?)?
         .arg(sources(alloc))
 }
 
@@ -387,11 +418,18 @@ fn path(alloc: Global, matches: &ArgMatches<'_>, name: &str) -> Result<Option<St
     }
 }
 
+/// The number of an option, if it has one.
+fn number_in(matches: &ArgMatches<'_>, name: &str) -> Option<u32>
+    ensures { IsNumber (found_of matches.now) name.now (unwrap_or result 0) }
+{
+    matches.get_one::<u32>(name)
+}
+
 /// The number of an option; 0 where it has none, which its default rules out.
 fn number_of(matches: &ArgMatches<'_>, name: &str) -> u32
     ensures { IsNumber (found_of matches.now) name.now result }
 {
-    matches.get_one::<u32>(name).unwrap_or(0)
+    number_in(matches, name).unwrap_or(0)
 }
 
 /// The options of a world, each number from the words after its own name.
@@ -441,19 +479,31 @@ fn debug_options(alloc: Global, matches: &ArgMatches<'_>) -> Result<DebugOptions
     })
 }
 
+/// Whether an exploration can be divided into so many parts, where it is divided.
+fn may_be_parts(split: Option<u32>) -> bool
+    ensures { IsTrue result → IfSome split IsPartCount }
+{
+    match split {
+        None => true,
+        Some(parts) => 1 <= parts && parts <= 65_536,
+    }
+}
+
 /// The options of `explore`, each number from the words after its own name. `Options` where a number is out of its range.
 fn explore_options(alloc: Global, matches: &ArgMatches<'_>) -> Result<ExploreOptions, LineError>
     ensures numbers { IfOk result (HasBounds (found_of matches.now)) }
     ensures files { IfOk result (λ options. 0 < length options.files.items) }
     ensures states { IfOk result (λ options. 1 ≤ options.states) }
     ensures limits { IfOk result (λ options. LimitsFit options.limits.steps options.limits.output) }
+    ensures parts { IfOk result (λ options. IfSome options.split IsPartCount) }
 {
     let states = number_of(matches, "states");
+    let split = number_in(matches, "split");
     let limits = Limits {
         steps: number_of(matches, "steps"),
         output: number_of(matches, "output"),
     };
-    if states < 1 || !limits.is_in_range() {
+    if states < 1 || !limits.is_in_range() || !may_be_parts(split) {
         return Err(LineError::Options);
     }
     Ok(ExploreOptions {
@@ -461,6 +511,8 @@ fn explore_options(alloc: Global, matches: &ArgMatches<'_>) -> Result<ExploreOpt
         limits,
         no_room: matches.get_flag("no-room"),
         witnesses: path(alloc, matches, "witnesses")?,
+        from: path(alloc, matches, "from")?,
+        split,
         files: files(alloc, matches)?,
     })
 }

@@ -1,22 +1,22 @@
 //! Every schedule of a program, explored and told.
 
 use crate::endings::{Ending, Exit};
-use crate::executing::{launched, write_one};
+use crate::executing::{launched, read_one, write_one, write_text};
 use crate::files::Files;
 use crate::options::{ExploreOptions, WorldOptions};
-use crate::stored_runs::write_stored;
+use crate::stored_runs::{replayed_world, stored_in, write_stored};
 use debug_texts::counted::Counted;
 use debug_texts::sinks::Sink;
 use explore_texts::reports::put_report;
-use explore_texts::witnesses::turns_text;
-use exploring::{Bounds, Choice, Explored, Found, Move, explore};
-use ideal_run::Transitions;
+use explore_texts::witnesses::{turns_in, turns_text};
+use exploring::{Bounds, Choice, Explored, Found, Move, Part, explore_after, split};
+use ideal_run::{Ideal, Transitions};
 use loader::programs::Program;
 use model::journals::{HeapShape, Limits, Outcome};
 use model::turns::{Actor, Turn};
-use model::watching::Watch;
+use model::watching::{Unwatched, Watch};
 use scheduler::worlds::World;
-use std::alloc::Global;
+use std::alloc::{AllocError, Global};
 use std::io::Write;
 
 /// The least world: what is refused as a program has none.
@@ -136,7 +136,7 @@ fn write_turns<F: Files>(
 }
 
 /// The name of a file in a folder.
-fn path_of(alloc: Global, folder: &String, number: usize, kind: &str) -> Result<String, Ending> {
+fn path_of(alloc: Global, folder: &str, number: usize, kind: &str) -> Result<String, Ending> {
     match format!(in alloc; "{folder}/{number}.{kind}") {
         Ok(name) => Ok(name),
         Err(_) => Err(Ending::memory()),
@@ -149,7 +149,7 @@ fn write_witness<F: Files>(
     files: &mut F,
     program: &Program,
     limits: Limits,
-    folder: &String,
+    folder: &str,
     number: usize,
     witness: &[Move],
 ) -> Result<(), Ending> {
@@ -171,7 +171,7 @@ fn write_witnesses<F: Files>(
     files: &mut F,
     program: &Program,
     limits: Limits,
-    folder: &String,
+    folder: &str,
     found: &[Found],
 ) -> Result<(), Ending> {
     for (place, each) in found.iter().enumerate() {
@@ -211,30 +211,292 @@ fn write_report<W: Write>(
     }
 }
 
-/// What an exploration of a program finds.
-fn search<P: Watch>(
+// ---- where an exploration begins
+
+/// A program, the limits of its runs, and the turns that come first.
+#[derive(Drop)]
+struct Beginning {
+    world: World,
+    limits: Limits,
+    first: Vec<Move>,
+}
+
+impl Beginning {
+    /// The program.
+    fn program(&self) -> &Program {
+        self.world.program()
+    }
+}
+
+/// Makes turns of a run until one is refused; how many were made.
+fn made(run: &mut Ideal<'_>, turns: &[Move]) -> Result<usize, AllocError> {
+    for (place, turn) in turns.iter().enumerate() {
+        let before = run.world().rows();
+        run.turn(Actor::Thread(turn.thread), turn.choice)?;
+        if run.world().rows() == before {
+            return Ok(place);
+        }
+    }
+    Ok(turns.len())
+}
+
+/// How many turns of a program are made before one is refused.
+fn made_first(
     alloc: Global,
     program: &Program,
+    limits: Limits,
+    turns: &[Move],
+) -> Result<usize, AllocError> {
+    match Ideal::new(alloc, program.listings(), limits)? {
+        Some(mut run) => made(&mut run, turns),
+        None => Ok(0),
+    }
+}
+
+/// Whether a turn after some others is at fault if it finds a cell, or asks for none.
+fn faults_with_room(
+    alloc: Global,
+    program: &Program,
+    limits: Limits,
+    earlier: &[Move],
+    thread: u8,
+) -> Result<bool, AllocError> {
+    let Some(mut run) = Ideal::new(alloc, program.listings(), limits)? else {
+        return Ok(true);
+    };
+    made(&mut run, earlier)?;
+    run.turn(Actor::Thread(thread), Choice::NewObject)?;
+    Ok(run.world().fault().is_some())
+}
+
+/// Whether the turn of a row found a cell, or asked for none, after some others. A row at fault doesn't tell: there was
+/// one if the turn is at fault with it.
+fn choice_of(
+    alloc: Global,
+    world: &World,
+    earlier: &[Move],
+    thread: u8,
+    outcome: Outcome,
+) -> Result<Choice, AllocError> {
+    let finds = match outcome {
+        Outcome::Done | Outcome::Object => true,
+        Outcome::NoRoom => false,
+        Outcome::Fault => {
+            let limits = world.journal().limits();
+            faults_with_room(alloc, world.program(), limits, earlier, thread)?
+        }
+    };
+    Ok(if finds {
+        Choice::NewObject
+    } else {
+        Choice::NoRoom
+    })
+}
+
+/// The turns of the threads in a run. Those of the collector change nothing that an exploration sees.
+fn turns_of(alloc: Global, world: &World) -> Result<Vec<Move>, AllocError> {
+    let mut turns = Vec::new(alloc);
+    for row in world.journal().rows() {
+        if let Actor::Thread(thread) = row.actor {
+            let choice = choice_of(alloc, world, &turns, thread, row.outcome)?;
+            turns.push(Move { thread, choice })?;
+        }
+    }
+    Ok(turns)
+}
+
+/// The beginning after the run of a journal, which is checked as by a replay. The limits are the journal's.
+fn after_journal<F: Files>(
+    alloc: Global,
+    text: &[u8],
+    names: &[String],
+    files: &mut F,
+) -> Result<Beginning, Ending> {
+    let journal = stored_in(alloc, text)?;
+    let world = replayed_world(alloc, &journal, names, files, &mut Unwatched)?;
+    let first = turns_of(alloc, &world)?;
+    Ok(Beginning {
+        world,
+        limits: journal.limits(),
+        first,
+    })
+}
+
+/// The beginning of a program after some turns.
+fn after_turns<F: Files>(
+    alloc: Global,
+    first: Vec<Move>,
+    options: &ExploreOptions,
+    files: &mut F,
+) -> Result<Beginning, Ending> {
+    Ok(Beginning {
+        world: launched(alloc, LEAST, &options.files, files)?,
+        limits: options.limits,
+        first,
+    })
+}
+
+/// Where an exploration begins: at the opening, or after the turns of a text, or after the run of a journal.
+fn begin<F: Files>(
+    alloc: Global,
+    options: &ExploreOptions,
+    files: &mut F,
+) -> Result<Beginning, Ending> {
+    let Some(name) = &options.from else {
+        return after_turns(alloc, Vec::new(alloc), options, files);
+    };
+    let text = read_one(alloc, files, name)?;
+    match turns_in(alloc, &text)? {
+        Some(first) => after_turns(alloc, first, options, files),
+        None => after_journal(alloc, &text, &options.files, files),
+    }
+}
+
+// ---- exploring, and dividing what is to be explored
+
+/// How far an exploration goes.
+fn bounds_of(options: &ExploreOptions) -> Bounds {
+    Bounds {
+        states: options.states,
+        no_room: options.no_room,
+    }
+}
+
+/// The transitions of a beginning's program.
+fn transitions_of(alloc: Global, begun: &Beginning) -> Result<Transitions<'_>, Ending> {
+    match Transitions::new(alloc, begun.program().listings(), begun.limits)? {
+        Some(transitions) => Ok(transitions),
+        None => Err(Ending::memory()),
+    }
+}
+
+/// The end of an exploration after turns of which one is refused.
+fn turn_refused(alloc: Global, begun: &Beginning) -> Ending {
+    match made_first(alloc, begun.program(), begun.limits, &begun.first) {
+        Ok(made) => {
+            let row = made.saturating_add(1);
+            Ending::reported(Exit::Refused, format!(in alloc; "turns N5 at row {row}"))
+        }
+        Err(_) => Ending::memory(),
+    }
+}
+
+/// What an exploration finds after its beginning.
+fn search<P: Watch>(
+    alloc: Global,
+    begun: &Beginning,
     options: &ExploreOptions,
     watch: &mut P,
 ) -> Result<Explored, Ending> {
-    let Ok(Some(transitions)) = Transitions::new(alloc, program.listings(), options.limits) else {
-        return Err(Ending::memory());
-    };
-    let bounds = Bounds {
-        states: options.states,
-        no_room: options.no_room,
-    };
-    let explored = explore(alloc, &transitions, bounds, watch);
-    if explored.states == 0 {
-        return Err(Ending::memory());
+    let transitions = transitions_of(alloc, begun)?;
+    match explore_after(alloc, &transitions, &begun.first, bounds_of(options), watch) {
+        Some(explored) if explored.states > 0 => Ok(explored),
+        Some(_) => Err(Ending::memory()),
+        None => Err(turn_refused(alloc, begun)),
     }
-    Ok(explored)
 }
 
-/// Explores every schedule of the program of some files, writes the report, and then the witnesses, where they are
-/// wanted. The end is good where the exploration is complete, and a limit where it was cut off. A watch is told how many
-/// states were expanded, and how many wait.
+/// The parts into which an exploration is divided, at most so many; none where nothing that follows its beginning comes
+/// to rest.
+fn divided(
+    alloc: Global,
+    begun: &Beginning,
+    bounds: Bounds,
+    most: u32,
+) -> Result<Vec<Part>, Ending> {
+    let transitions = transitions_of(alloc, begun)?;
+    match split(alloc, &transitions, &begun.first, bounds, most) {
+        Ok(Some(parts)) => Ok(parts),
+        Ok(None) => Err(turn_refused(alloc, begun)),
+        Err(_) => Err(Ending::memory()),
+    }
+}
+
+/// The one part that is all: what some turns lead to.
+fn undivided(alloc: Global, first: &[Move]) -> Result<Vec<Part>, AllocError> {
+    let mut parts = Vec::new(alloc);
+    let moves = Vec::from_slice(alloc, first)?;
+    parts.push(Part { moves })?;
+    Ok(parts)
+}
+
+/// Writes each part of an exploration into a folder, by its number from 1, and how many there are to standard output.
+fn write_parts<F: Files, W: Write>(
+    alloc: Global,
+    begun: &Beginning,
+    parts: &[Part],
+    folder: &str,
+    files: &mut F,
+    output: &mut W,
+) -> Result<Ending, Ending> {
+    for (place, part) in parts.iter().enumerate() {
+        write_witness(
+            alloc,
+            files,
+            begun.program(),
+            begun.limits,
+            folder,
+            place + 1,
+            &part.moves,
+        )?;
+    }
+    let count = parts.len();
+    let line = format!(in alloc; "parts {count}\n")?;
+    write_text(alloc, line.as_bytes(), output)
+}
+
+/// Divides what can follow a beginning into at most so many parts, one at least, and writes them into the folder of
+/// witnesses, or this one.
+fn split_up<F: Files, W: Write>(
+    alloc: Global,
+    begun: &Beginning,
+    options: &ExploreOptions,
+    most: u32,
+    files: &mut F,
+    output: &mut W,
+) -> Result<Ending, Ending> {
+    let mut parts = divided(alloc, begun, bounds_of(options), most)?;
+    if parts.is_empty() {
+        parts = undivided(alloc, &begun.first)?;
+    }
+    let folder = match &options.witnesses {
+        Some(folder) => folder.as_str(),
+        None => ".",
+    };
+    write_parts(alloc, begun, &parts, folder, files, output)
+}
+
+/// Explores what can follow a beginning, writes the report, and then the witnesses, where they are wanted.
+fn reported<F: Files, W: Write, P: Watch>(
+    alloc: Global,
+    begun: &Beginning,
+    options: &ExploreOptions,
+    files: &mut F,
+    output: &mut W,
+    watch: &mut P,
+) -> Result<Ending, Ending> {
+    let explored = search(alloc, begun, options, watch)?;
+    write_report(alloc, &explored, output)?;
+    if let Some(folder) = &options.witnesses {
+        write_witnesses(
+            alloc,
+            files,
+            begun.program(),
+            begun.limits,
+            folder.as_str(),
+            &explored.found,
+        )?;
+    }
+    match explored.cut {
+        None => Ok(Ending::good()),
+        Some(_) => Ok(Ending::cut_off()),
+    }
+}
+
+/// Explores every schedule of the program of some files, or what can follow a run of it, writes the report, and then the
+/// witnesses, where they are wanted. The end is good where the exploration is complete, and a limit where it was cut off.
+/// A watch is told how many states were expanded, and how many wait. Where parts are wanted, it writes these in place of
+/// exploring.
 pub fn explored<F: Files, W: Write, P: Watch>(
     alloc: Global,
     options: &ExploreOptions,
@@ -242,22 +504,9 @@ pub fn explored<F: Files, W: Write, P: Watch>(
     output: &mut W,
     watch: &mut P,
 ) -> Result<Ending, Ending> {
-    let world = launched(alloc, LEAST, &options.files, files)?;
-    let program = world.program();
-    let explored = search(alloc, program, options, watch)?;
-    write_report(alloc, &explored, output)?;
-    if let Some(folder) = &options.witnesses {
-        write_witnesses(
-            alloc,
-            files,
-            program,
-            options.limits,
-            folder,
-            &explored.found,
-        )?;
-    }
-    match explored.cut {
-        None => Ok(Ending::good()),
-        Some(_) => Ok(Ending::cut_off()),
+    let begun = begin(alloc, options, files)?;
+    match options.split {
+        Some(most) => split_up(alloc, &begun, options, most, files, output),
+        None => reported(alloc, &begun, options, files, output, watch),
     }
 }

@@ -12,6 +12,7 @@ use model::journal_parts::JournalParts;
 use model::stored_journals::StoredJournal;
 use model::watching::Watch;
 use scheduler::replaying::ReplayError;
+use scheduler::worlds::World;
 use std::alloc::Global;
 use std::io::Write;
 
@@ -28,6 +29,15 @@ pub fn write_stored<F: Files, J: JournalParts>(
     }
 }
 
+/// The journal of a text, of either version.
+pub fn stored_in(alloc: Global, text: &[u8]) -> Result<StoredJournal, Ending> {
+    match read_journal(alloc, text) {
+        Ok(journal) => Ok(journal),
+        Err(JournalError::Memory) => Err(Ending::memory()),
+        Err(error) => Err(Ending::reported(Exit::Refused, format!(in alloc; "journal {error}"))),
+    }
+}
+
 /// The journal in a file, of either version.
 fn read_stored<F: Files>(
     alloc: Global,
@@ -35,11 +45,7 @@ fn read_stored<F: Files>(
     name: &String,
 ) -> Result<StoredJournal, Ending> {
     let text = read_one(alloc, files, name)?;
-    match read_journal(alloc, text.as_slice()) {
-        Ok(journal) => Ok(journal),
-        Err(JournalError::Memory) => Err(Ending::memory()),
-        Err(error) => Err(Ending::reported(Exit::Refused, format!(in alloc; "journal {error}"))),
-    }
+    stored_in(alloc, text.as_slice())
 }
 
 /// The end of a replay that has no world.
@@ -57,6 +63,21 @@ fn not_replayed(alloc: Global, names: &[String], error: &ReplayedError) -> Endin
     }
 }
 
+/// The world of a journal's run of the program of some files. A watch is told how many rows were made.
+pub fn replayed_world<F: Files, P: Watch>(
+    alloc: Global,
+    journal: &StoredJournal,
+    names: &[String],
+    files: &mut F,
+    watch: &mut P,
+) -> Result<World, Ending> {
+    let sources = read_all(alloc, files, names)?;
+    match replayed(alloc, sources, journal, watch) {
+        Ok(world) => Ok(world),
+        Err(error) => Err(not_replayed(alloc, names, &error)),
+    }
+}
+
 /// Replays a journal on the program of some files, and writes the output. The end is that of the run. A watch is told
 /// how many rows were made.
 pub fn replay<F: Files, W: Write, P: Watch>(
@@ -67,15 +88,9 @@ pub fn replay<F: Files, W: Write, P: Watch>(
     watch: &mut P,
 ) -> Result<Ending, Ending> {
     let journal = read_stored(alloc, files, &options.journal)?;
-    let names = options.files.as_slice();
-    let sources = read_all(alloc, files, names)?;
-    match replayed(alloc, sources, &journal, watch) {
-        Ok(world) => {
-            write_output(alloc, &world, output)?;
-            Ok(ended(alloc, &world))
-        }
-        Err(error) => Err(not_replayed(alloc, names, &error)),
-    }
+    let world = replayed_world(alloc, &journal, &options.files, files, watch)?;
+    write_output(alloc, &world, output)?;
+    Ok(ended(alloc, &world))
 }
 
 /// Writes a journal of either version in version 2.

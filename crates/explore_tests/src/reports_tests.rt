@@ -4,8 +4,8 @@ ghost use Rattle.std.specs.Prelude.{◌≡◌, None};
 use crate::programs::{ALL, FAULT, LIMITS, LOCKS, MAKERS, PRINTS, explored};
 use debug_texts::sinks::{Sink, WriteFailed};
 use explore_texts::reports::put_report;
-use explore_texts::witnesses::turns_text;
-use exploring::{Bounds, Explored};
+use explore_texts::witnesses::{turns_in, turns_text};
+use exploring::{Bounds, Choice, Explored, Move};
 use std::alloc::Global;
 use std::test::Fail;
 
@@ -116,6 +116,45 @@ fn writes_fail(rt: HostRuntime) -> Result<(), Fail> {
     for left in 0..20 {
         let (text, written) = printed(rt.alloc(), &explored, left);
         assert!(rt; !written && whole.starts_with(&text));
+    }
+    Ok(())
+}
+
+/// The turns of a text are those that were written; a text that isn't theirs has none.
+#[test]
+fn turns_are_read(rt: HostRuntime) -> Result<(), Fail> {
+    let turns = [
+        Move {
+            thread: 0,
+            choice: Choice::NoRoom,
+        },
+        Move {
+            thread: 107,
+            choice: Choice::NewObject,
+        },
+        Move {
+            thread: 255,
+            choice: Choice::NoRoom,
+        },
+    ];
+    let text = turns_text(rt.alloc(), &turns)?;
+    assert!(rt; text.as_slice() == b"0 no room\n107\n255 no room\n".as_slice());
+    let read = turns_in(rt.alloc(), &text)?;
+    assert!(rt; matches!(&read, Some(moves) if moves.as_slice() == turns.as_slice()));
+    for other in [
+        "",
+        "\n",
+        "256\n",
+        "01\n",
+        "1",
+        "1 \n",
+        "1 no room",
+        "-1\n",
+        "1\n\n",
+        "1\n+2\n",
+        "pozhundar journal 2\n",
+    ] {
+        assert!(rt; turns_in(rt.alloc(), other.as_bytes())?.is_none());
     }
     Ok(())
 }
