@@ -1,8 +1,10 @@
 """A browser without a screen, for tests: Debian's chromium by its chromedriver. Not called by itself."""
 import base64
+import http.client
 import json
 import os
 import shutil
+import socket
 import subprocess
 import time
 import urllib.error
@@ -10,7 +12,7 @@ import urllib.request
 
 
 class NoBrowser(Exception):
-    """There is no browser here."""
+    """There is no browser here, or none that starts, and why."""
 
 
 # a minute or two where the net is there; where it isn't, a try ends soon
@@ -33,38 +35,56 @@ def installed():
     return is_there()
 
 
+def free_port():
+    with socket.socket() as it:
+        it.bind(("127.0.0.1", 0))
+        return it.getsockname()[1]
+
+
+# how long chromedriver may take to start on a busy machine, in seconds
+START = 120
+# (--disable-dev-shm-usage: a container's /dev/shm may be small)
+ARGUMENTS = "--headless --no-sandbox --disable-gpu --disable-dev-shm-usage --window-size=1400,1000 --force-color-profile=srgb".split()
+
+
 class Browser:
     """A window."""
 
-    def __init__(self, port=9515, words=(), dark=False):
+    def __init__(self):
         driver, browser = shutil.which("chromedriver"), shutil.which("chromium")
         if not driver or not browser:
             raise NoBrowser
-        how = {"stdout": subprocess.DEVNULL, "stderr": subprocess.DEVNULL}
+        port = free_port()
+        how = {"stdin": subprocess.DEVNULL, "stdout": subprocess.DEVNULL, "stderr": subprocess.DEVNULL}
         self.driver = subprocess.Popen([driver, f"--port={port}"], **how)
         self.base, self.session = f"http://127.0.0.1:{port}", None
         try:
             self.await_driver()
-            arguments = ["--headless", "--no-sandbox", "--disable-gpu", "--window-size=1400,1000", "--force-color-profile=srgb", *words]
-            if dark:
-                arguments.append("--force-dark-mode")
-            options = {"binary": browser, "args": arguments}
-            always = {"browserName": "chrome", "goog:chromeOptions": options, "goog:loggingPrefs": {"browser": "ALL"}, "timeouts": {"script": 120000}}
-            made = self.ask("POST", "/session", {"capabilities": {"alwaysMatch": always}})
-            self.session = f"/session/{made['sessionId']}"
-            self.version = made["capabilities"]["browserVersion"]
+            self.begin(browser)
         except BaseException:
             self.close()
             raise
 
     def await_driver(self):
-        for _ in range(150):
+        began = time.time()
+        while time.time() - began < START and self.driver.poll() is None:
             try:
                 self.ask("GET", "/status")
                 return
             except OSError:
                 time.sleep(0.2)
-        raise NoBrowser
+        raise NoBrowser("chromedriver doesn't answer")
+
+    def begin(self, browser):
+        """Opens the window."""
+        options = {"binary": browser, "args": ARGUMENTS}
+        always = {"browserName": "chrome", "goog:chromeOptions": options, "goog:loggingPrefs": {"browser": "ALL"}, "timeouts": {"script": 120000}}
+        try:
+            made = self.ask("POST", "/session", {"capabilities": {"alwaysMatch": always}})
+        except (RuntimeError, OSError) as error:
+            raise NoBrowser(f"chromium doesn't start: {error}") from None
+        self.session = f"/session/{made['sessionId']}"
+        self.version = made["capabilities"]["browserVersion"]
 
     def ask(self, how, path, body=None):
         """What the driver answers."""
@@ -74,7 +94,7 @@ class Browser:
             with urllib.request.urlopen(asked, timeout=180) as answer:
                 return json.load(answer)["value"]
         except urllib.error.HTTPError as error:
-            raise RuntimeError(error.read().decode()[:1000]) from None
+            raise RuntimeError(json.load(error)["value"]["message"].split("\n")[0]) from None
 
     def open(self, address):
         self.ask("POST", f"{self.session}/url", {"url": address})
@@ -118,7 +138,7 @@ class Browser:
         if self.session:
             try:
                 self.ask("DELETE", self.session)
-            except (OSError, RuntimeError):
+            except (OSError, RuntimeError, http.client.HTTPException):
                 pass
         self.driver.terminate()
         self.driver.wait()

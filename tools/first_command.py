@@ -1,14 +1,13 @@
 #!/usr/bin/env python3
 """Tries `./jvm` as someone does who just got the sources: in a fresh folder, where nothing is built.
 
-    tools/first_command.py [--after LOG]
+    tools/first_command.py
 
 The folder is a clone of this checkout, so what isn't committed isn't tried; where this is no checkout, it is a copy without
 what is built. A program without its proofs is built there once, and another build is begun that finds the disk full: some five
 minutes of processor time.
 
-The last line is 'N passed, M failed', with ', K skipped' where there are some. With --after, the passes and failures in the
-last line of that file are added.
+The last line is 'N passed, M failed', with ', K skipped' where there are some.
 """
 import argparse
 import contextlib
@@ -281,14 +280,8 @@ def tried(door):
 
 def main():
     """Tries all, and tells what failed."""
-    words = argparse.ArgumentParser(description=__doc__.split("\n")[0])
-    words.add_argument("--after", metavar="LOG")
-    given = words.parse_args()
+    argparse.ArgumentParser(description=__doc__.split("\n")[0]).parse_args()
     passed = failed = skipped = 0
-    if given.after:
-        with open(given.after, encoding="utf-8", errors="replace") as file:
-            last = file.read().rstrip("\n").split("\n")[-1]
-        passed, failed = (int(it) for it in re.match(r"(\d+) passed, (\d+) failed", last).groups())
     signal.signal(signal.SIGTERM, lambda number, _: sys.exit(128 + number))
     with tempfile.TemporaryDirectory() as room, contextlib.closing(Door(room)) as door:
         for name, why in tried(door):

@@ -6,9 +6,13 @@ Usage: page.py OUT.html [--module MODULE.bc] [--keep FOLDER] [--from-gate]
 Where `playground` is proved and nothing is newer, it takes the module that `rt` hands to clang for the proved program; else that
 of `rt try`, of which nothing is proved, without its checks, and the page says so in its foot. The module was made for x86-64: its
 text is rewritten for wasm64, compiled by the kit's clang and linked by the kit's linker with web/memory.c. --module takes a
-module that is there; --keep keeps the .wasm in a folder. --from-gate takes the libraries that `rt ci` proved and kept, so that
-no more than `main` of the program is proved once more, and ends without a page where that doesn't do. It prints the sizes and a checksum. It calls parts of the kit that its
-authors may change.
+module that is there; --keep keeps the .wasm in a folder.
+
+--from-gate is for a checkout in which `rt ci` works or has worked, once it has proved `playground`. `rt ci` keeps of a program no
+more than what was linked, so `main` is proved once more, over the libraries that it left; nothing else is, and nothing is
+written into the checkout or waits for `rt ci`. Where that doesn't do, there is no page.
+
+It prints the sizes and a checksum. It calls parts of the kit that its authors may change.
 """
 import argparse
 import base64
@@ -24,8 +28,7 @@ import sys
 import tempfile
 import time
 
-from kit import linked_kit
-from take_kept import give, libraries_below
+from kit import linked_kit, module_of_kit
 from unproved import unchecked
 
 HERE = os.path.dirname(os.path.dirname(os.path.abspath(__file__)))
@@ -51,8 +54,8 @@ TARGET = """--target=wasm64-unknown-unknown -mcpu=lime1 -mllvm -expand-div-rem-b
     -Wno-everything""".split()
 LAYOUT = "e-m:e-p:64:64-p10:8:8-p20:8:8-i64:64-i128:128-n32:64-S128-ni:1:10:20"
 STACK = 4 << 20
-# how long it may take to prove `main` and make the module, in seconds, where all below is proved
-LIMIT = 600
+# how long `main` and its module may take where all below is proved, in seconds
+LIMIT = 1800
 SCRIPTS = ("protocol", "text", "lessons", "show", "page")
 PROVED = """The machine in this page is made of proved sources: what it answers is, by its contracts, what the definitions say. Not proved are the
 compiler for WebAssembly, the memory and the streams under it, and the page's own scripts."""
@@ -78,8 +81,17 @@ def is_proved():
     return True
 
 
-def kept_module(room, proved, limit=None):
-    """The module of the whole program; `rt` is stopped once it is there, or after so many seconds."""
+def largest_kept(room, said):
+    """The module of the whole program, the largest that clang was given; said: all that the command said."""
+    kept = [f"{room}/{name}" for name in os.listdir(room) if name.endswith(".kept")]
+    if not kept:
+        lines = said.decode(errors="replace").splitlines()
+        fail(f"rt made no module: {lines[-1] if lines else 'it said nothing'}")
+    return max(kept, key=os.path.getsize)
+
+
+def kept_module(room, proved):
+    """The module of the whole program; `rt` is stopped once it is there."""
     scripts = {"toolchain/bin/clang": KEEPER.format(room=room, then="exit 1" if proved else "true")}
     if not proved:
         scripts["bin/rattle"] = PROVER
@@ -87,27 +99,46 @@ def kept_module(room, proved, limit=None):
     stamp = f"{CRATE}/out/playground.stamp"
     if proved and os.path.exists(stamp):  # with it `rt run` compiles nothing
         shutil.move(stamp, f"{room}/stamp")
-    words, began = [f"{kit}/bin/rt", "run" if proved else "try"], time.time()
+    words = [f"{kit}/bin/rt", "run" if proved else "try"]
     with open(f"{CRATE}/stdin", "rb") as given, open(f"{room}/said", "w+b") as said:
         how = {"cwd": CRATE, "stdin": given, "stdout": said, "stderr": said, "start_new_session": True}
         ran = subprocess.Popen(words, **how)
         try:
             while ran.poll() is None and (proved or not os.path.exists(f"{room}/whole")):
                 time.sleep(0.2)
-                if limit and time.time() - began > limit:
-                    fail(f"rt made no module in {limit} seconds")
         finally:
             if ran.poll() is None:
                 os.killpg(ran.pid, signal.SIGTERM)
             ran.wait()
         said.seek(0)
-        lines = said.read().decode(errors="replace").splitlines()
+        told = said.read()
     if os.path.exists(f"{room}/stamp"):
         shutil.move(f"{room}/stamp", stamp)
-    kept = [f"{room}/{name}" for name in os.listdir(room) if name.endswith(".kept")]
-    if not kept:
-        fail(f"rt made no module: {lines[-1] if lines else 'it said nothing'}")
-    return max(kept, key=os.path.getsize)
+    return largest_kept(room, told)
+
+
+def gate_module(room):
+    """The module of the whole program, whose `main` is proved here over the libraries that `rt ci` proved."""
+    rt = module_of_kit("rt")
+    crate = next(it for it in rt.rtlib.crates_below(f"{HERE}/crates") if it.folder == CRATE)
+    for it in crate.below():
+        if not os.path.isdir(it.rlib):
+            fail(f"rt ci left no library {it.name}")
+        # (by links: when `rt ci` ends, it puts back what stood there before)
+        linked = f"{room}/rlib/{it.name}.rlib"
+        shutil.copytree(it.rlib, linked, copy_function=rt.link_or_copy)
+        it.rlib = linked
+    kit = linked_kit(room, {"toolchain/bin/clang": KEEPER.format(room=room, then="exit 1")})
+    words = [*rt.rtlib.guarded(), rt.rtlib.RATTLE, "build", *crate.words(["--jobs", "1"], keeps=False)]
+    words += ["--toolchain", f"{kit}/toolchain", "--backend", "llvm", "-o", f"{room}/program.o"]
+    how = {"cwd": CRATE, "stdin": subprocess.DEVNULL, "stdout": subprocess.PIPE, "stderr": subprocess.STDOUT}
+    try:
+        said = subprocess.run(words, timeout=LIMIT, check=False, **how).stdout
+    except subprocess.TimeoutExpired:
+        fail(f"rattle made no module in {LIMIT} seconds")
+    if not re.search(rb"(?m)^logic=proved ", said):
+        fail(f"main isn't proved over what rt ci left: {said.decode(errors='replace')[-300:].strip()}")
+    return largest_kept(room, said)
 
 
 def for_wasm(text):
@@ -211,13 +242,10 @@ def main():
     signal.signal(signal.SIGTERM, lambda number, _: sys.exit(128 + number))
     clang = f"{os.path.dirname(os.path.dirname(os.path.realpath(shutil.which('rt') or fail('the Rattle kit is missing'))))}/toolchain/bin/clang"
     proved = is_proved()
-    if given.from_gate:
-        if not proved:
-            fail("rt ci left no proved playground")
-        if why := give(libraries_below("playground")):
-            fail(why)
+    if given.from_gate and not proved:
+        fail("rt ci left no proved playground")
     with tempfile.TemporaryDirectory() as room:
-        module = given.module or kept_module(room, proved, LIMIT if given.from_gate else None)
+        module = given.module or (gate_module(room) if given.from_gate else kept_module(room, proved))
         if given.keep:
             os.makedirs(given.keep, exist_ok=True)
             shutil.copy2(module, f"{given.keep}/module.bc") if module != f"{given.keep}/module.bc" else None

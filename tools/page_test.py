@@ -1,17 +1,17 @@
 #!/usr/bin/env python3
 """Tries the page in a real browser: clicks through what it can do, and compares what it shows with `jvm debug` and `jvm run`.
 
-Usage: page_test.py [--page FILE] [--jvm PROGRAM] [--playground PROGRAM] [--moments N] [--pictures FOLDER] [--gate] [--after LOG] [WORD ..]
+Usage: page_test.py [--page FILE] [--jvm PROGRAM] [--playground PROGRAM] [--moments N] [--pictures FOLDER] [--gate] [WORD ..]
 
 Without --page a page is built first (tools/page.py). Each example is looked at at some forty moments of its run. With WORDs only
 the tests whose names have one of them are made. --pictures keeps pictures. Needs Debian's chromium and chromium-driver; where
 they are missing it says `page: not tested, no browser`, and that counts as skipped.
 
-With --gate, which is for a call after `rt ci` in the same checkout, it tries to install what is missing, and the page is of the
-program that `rt ci` proved, compiled at -O1 for the sake of time; each example is looked at at ten moments.
+With --gate, which is for a call beside `rt ci` in the same checkout, once it has proved `jvm` and `playground`, or after it, a
+missing browser is installed where that can be done, and the page is of the program that `rt ci` proved, compiled at -O1 for the
+sake of time; each example is looked at at ten moments.
 
-The last line is 'N passed, M failed', with ', K skipped' where there are some. With --after, the counts in the last line of that
-file are added.
+The last line is 'N passed, M failed', with ', K skipped' where there are some; the status is 1 where something failed.
 """
 import argparse
 import base64
@@ -71,7 +71,7 @@ class Skipped(Exception):
 
 
 class NoPage(Exception):
-    """No page could be built."""
+    """Why there is no page to test."""
 
 
 class Tried(Exception):
@@ -91,9 +91,12 @@ def holds(condition, what):
 class Page:
     """The page in a browser."""
 
-    def __init__(self, browser, path, jvm, room, moments, pictures):
-        self.browser, self.path, self.jvm, self.room, self.moments, self.pictures = browser, path, jvm, room, moments, pictures
-        self.playground = None
+    def __init__(self, browser, path, given, room):
+        """given: what the command line says."""
+        self.browser, self.path, self.room = browser, path, room
+        self.jvm, self.playground, self.moments, self.pictures = given.jvm, given.playground, given.moments, given.pictures
+        # how long a seek may take, in ms: beside proofs it waits for a processor
+        self.seek = 5000 if given.gate else 500
         self.open()
 
     def open(self, fragment=""):
@@ -131,6 +134,18 @@ class Page:
         self.browser.run("$('examples').value = arguments[0]; $('examples').dispatchEvent(new Event('change'))", name)
         self.until("page.busy || page.view || page.refusal")
         return self.settled()
+
+    def loaded(self, action):
+        """What is shown once the program was loaded anew, as an action has it be sooner or later."""
+        before = self.browser.run("return page.generation")
+        action()
+        self.until(f"page.generation > {before}")
+        return self.settled()
+
+    def change(self, **fields):
+        """Sets fields of the machine."""
+        script = "for (const [id, value] of Object.entries(arguments[0])) { $(id).value = value; $(id).dispatchEvent(new Event('change')); }"
+        return self.loaded(lambda: self.browser.run(script, fields))
 
     def take(self, text, name="a.j", **shape):
         self.later("take([{name: arguments[1], text: arguments[0]}], {shape: arguments[2], limits: LIMITS}).then(() => done(0))", text, name, {"small": 8, "medium": 2, "large": 1, **shape})
@@ -301,19 +316,16 @@ def tried_breakpoint(page):
 
 def tried_settings(page):
     page.example("workers")
-    page.browser.run("$('small').value = 12; $('medium').value = 0; $('large').value = 0; $('small').dispatchEvent(new Event('change'))")
-    page.until("!page.busy && page.view && page.view.cells.length === 12")
+    same(len(page.change(small=12, medium=0, large=0)["cells"]), 12)
     page.browser.run("$('gc').value = 3")
     same(page.click("#round")["at"], 4, "a round with three turns of the collector")
-    page.browser.run("$('steps').value = 10; $('steps').dispatchEvent(new Event('change'))")
-    time.sleep(0.6)
+    page.change(steps=10)
     holds("step limit" in page.click("#run")["status"], "the limit isn't told")
     same(page.settled()["at"], 10)
-    page.browser.run("$('small').value = 1; $('steps').value = 1000000; $('small').dispatchEvent(new Event('change'))")
-    page.until("$('refusal').textContent.includes('P1')")
-    page.browser.run("$('small').value = 8; $('medium').value = 2; $('large').value = 1; $('gc').value = 1; $('small').dispatchEvent(new Event('change'))")
-    page.until("!page.busy && page.view && page.view.cells.length === 11")
-    same(page.browser.run("return $('refusal').textContent"), "")
+    holds("P1" in page.change(small=1, steps=1000000)["refusal"], "P1 isn't told")
+    page.browser.run("$('gc').value = 1")
+    shown = page.change(small=8, medium=2, large=1)
+    same((len(shown["cells"]), shown["refusal"]), (11, ""))
 
 
 def tried_refusals(page):
@@ -343,8 +355,7 @@ def tried_markup(page):
 
 def tried_link(page):
     page.example("Square")
-    page.browser.run("$('small').value = 9; $('small').dispatchEvent(new Event('change'))")
-    page.until("!page.busy && page.view && page.view.cells.length === 12")
+    same(len(page.change(small=9)["cells"]), 12)
     page.click("#round")
     page.click("#thread")
     wanted = page.click("#collect")
@@ -367,12 +378,11 @@ def dropped(page, *paths):
     for path in paths:
         with open(path, "rb") as file:
             files.append([os.path.basename(path), base64.b64encode(file.read()).decode()])
-    page.later("""
+    script = """
         const files = new DataTransfer();
         for (const [name, text] of arguments[0]) files.items.add(new File([Uint8Array.from(atob(text), (it) => it.charCodeAt(0))], name));
-        document.dispatchEvent(new DragEvent("drop", { dataTransfer: files, bubbles: true, cancelable: true }));
-        setTimeout(() => done(0), 100);""", files)
-    return page.settled()
+        document.dispatchEvent(new DragEvent("drop", { dataTransfer: files, bubbles: true, cancelable: true }));"""
+    return page.loaded(lambda: page.browser.run(script, files))
 
 
 def tried_files(page):
@@ -380,8 +390,7 @@ def tried_files(page):
     names = sorted(it for it in os.listdir(classes) if it.startswith("Edges") and it.endswith(".class"))
     shown = dropped(page, *(f"{classes}/{it}" for it in names))
     same(shown["refusal"], "")
-    page.browser.run("$('small').value = 200; $('medium').value = 100; $('large').value = 40; $('small').dispatchEvent(new Event('change'))")
-    page.until("!page.busy && page.view && page.view.cells.length === 340")
+    same(len(page.change(small=200, medium=100, large=40)["cells"]), 340)
     shown = page.click("#run")
     with open(f"{classes}/Edges.out", encoding="ascii") as file:
         same(shown["output"], file.read(), "output of class files")
@@ -418,8 +427,7 @@ def tried_heap(page):
 
 def tried_timeline(page):
     page.example("workers")
-    page.browser.run("$('small').value = 12; $('medium').value = 0; $('large').value = 0; $('small').dispatchEvent(new Event('change'))")
-    page.until("!page.busy && page.view && page.view.cells.length === 12")
+    page.change(small=12, medium=0, large=0)
     total = page.click("#run")["total"]
     page.browser.click("#draw")
     page.until("document.querySelector('#timeline svg')")
@@ -435,9 +443,7 @@ def tried_timeline(page):
 
 def tried_long_runs(page):
     page.take(COUNTER_LOOP)
-    page.browser.run("$('steps').value = 16777215; $('steps').dispatchEvent(new Event('change'))")
-    time.sleep(0.6)
-    page.settled()
+    page.change(steps=16777215)
     page.browser.run("$('many').value = 500000")
     page.click("#rounds")
     same(page.settled()["total"], 1000000, "a run of a million rows")
@@ -445,17 +451,15 @@ def tried_long_runs(page):
     for row in (1, 999999, 500000, 750001, 250000):
         took.append(page.later("const began = performance.now(); go(arguments[0]).then(() => done(performance.now() - began))", row))
     print(f"page: seeks in a run of a million rows: {', '.join(f'{it:.0f} ms' for it in took)}", flush=True)
-    holds(max(took) < 500, f"a seek took {max(took):.0f} ms")
-    page.later("window.waited = []; page.machine.ask(inputOf(setting(), Array(400).fill('rounds 40000 1')), (n) => waited.push(n)).catch((it) => waited.push(it.message)); setTimeout(() => done(0), 250)")
-    holds(page.browser.run("return waited.length") > 0, "a long run doesn't tell how far it is")
+    holds(max(took) < page.seek, f"a seek took {max(took):.0f} ms")
+    page.browser.run("window.waited = []; page.machine.ask(inputOf(setting(), Array(400).fill('rounds 40000 1')), (n) => waited.push(n)).catch((it) => waited.push(it.message))")
+    page.until("waited.length > 0")  # how far it is
     page.browser.run("page.machine.stop()")
     page.until("waited.includes('stopped')")
     page.browser.run("go(0); document.getElementById('run').disabled = false; rounds(16000000)")
     page.browser.run("page.machine.stop()")
     same(page.go(0)["at"], 0, "the page is usable after a stop")
-    page.browser.run("$('steps').value = 1000000; $('steps').dispatchEvent(new Event('change'))")
-    time.sleep(0.6)
-    page.settled()
+    page.change(steps=1000000)
 
 
 # how a run stands that an exploration tells so
@@ -526,9 +530,7 @@ def tried_lessons(page):
     page.browser.click("#show-lessons")
     wanted = [("What a turn is", "threads"), ("The three colours", "heap"), ("Why there is a write barrier", "heap"), ("A lost update", "statics"), ("A deadlock", "threads")]
     for number, (title, look) in enumerate(wanted, 1):
-        page.browser.click(f"#lesson-titles button:nth-child({number})")
-        time.sleep(0.2)
-        shown = page.settled()
+        shown = page.loaded(lambda number=number: page.browser.click(f"#lesson-titles button:nth-child({number})"))
         same(shown["refusal"], "", title)
         same(page.browser.run("return $('lesson-title').textContent"), title)
         same(page.browser.run("return document.querySelector('.look').id"), look)
@@ -639,20 +641,20 @@ def messages(browser):
     return [it["message"] for it in browser.messages()]
 
 
-def tried(page, words):
-    """Each test that is wanted, and why it failed."""
-    for name, test in tests(page):
-        if words and not any(word in name for word in words):
-            continue
-        try:
-            test()
-            why = "; ".join(messages(page.browser)) or None
-        except Skipped as skipped:
-            why = skipped
-        except (Tried, RuntimeError, subprocess.SubprocessError, KeyError, ValueError, IndexError, TypeError) as error:
-            why = f"{type(error).__name__}: {error}" if not isinstance(error, Tried) else str(error)
-            page.open()
-        yield name, why
+def outcome(page, test):
+    """Why a test failed or was skipped, or nothing."""
+    try:
+        test()
+        return "; ".join(messages(page.browser)) or None
+    except Skipped as skipped:
+        return skipped
+    except Tried as tried_otherwise:
+        why = str(tried_otherwise)
+    except Exception as error:  # a test that can't go on has failed, and the others are made
+        why = f"{type(error).__name__}: {error}"
+    page.open()
+    messages(page.browser)  # (these belong to the test that failed)
+    return why
 
 
 def page_of(given, room):
@@ -660,53 +662,66 @@ def page_of(given, room):
     if given.page:
         return os.path.abspath(given.page)
     words = ["--from-gate", "--level=-O1"] if given.gate else []
-    made = subprocess.run([sys.executable, f"{ROOT}/tools/page.py", f"{room}/page.html", *words], stdout=subprocess.PIPE, text=True, check=False)
+    how = {"stdout": subprocess.PIPE, "text": True, "env": {**os.environ, "TMPDIR": room}}
+    made = subprocess.run([sys.executable, f"{ROOT}/tools/page.py", f"{room}/page.html", *words], check=False, **how)
     if made.returncode:
-        raise NoPage
+        raise NoPage("no page could be built")
     print(f"page: {made.stdout.splitlines()[0].rsplit('/', 1)[-1]}", flush=True)
     return f"{room}/page.html"
 
 
-def main():
+def tried(given, room):
+    """Each test that is wanted, and why it failed or was skipped, or nothing."""
+    if given.gate and not installed():
+        raise NoBrowser
+    if not os.access(given.jvm, os.X_OK):
+        raise NoPage(f"there is no {given.jvm}")
+    path = page_of(given, room)
+    with contextlib.closing(Browser()) as browser:
+        print(f"page: in Chromium {browser.version}", flush=True)
+        page = Page(browser, path, given, room)
+        for name, test in tests(page):
+            if not given.words or any(word in name for word in given.words):
+                yield name, outcome(page, test)
+
+
+def options():
+    """What the command line says."""
     words = argparse.ArgumentParser(description=__doc__.split("\n")[0])
     words.add_argument("--page")
-    words.add_argument("--jvm", default=f"{ROOT}/crates/jvm/out/jvm")
-    words.add_argument("--playground", default=f"{ROOT}/crates/playground/out/playground")
+    words.add_argument("--jvm", default=f"{ROOT}/crates/jvm/out/jvm", type=os.path.abspath)
+    words.add_argument("--playground", default=f"{ROOT}/crates/playground/out/playground", type=os.path.abspath)
     words.add_argument("--moments", type=int)
     words.add_argument("--gate", action="store_true")
     words.add_argument("--pictures")
-    words.add_argument("--port", type=int, default=9515)
-    words.add_argument("--after", metavar="LOG")
     words.add_argument("words", nargs="*")
     given = words.parse_args()
-    passed = failed = skipped = 0
-    if given.after:
-        with open(given.after, encoding="utf-8", errors="replace") as file:
-            last = file.read().rstrip("\n").split("\n")[-1]
-        passed, failed, skipped = (int(it or 0) for it in re.match(r"(\d+) passed, (\d+) failed(?:, (\d+) skipped)?", last).groups())
+    given.moments = given.moments or (10 if given.gate else 40)
+    return given
+
+
+def main():
+    """Tries all, and tells what failed."""
+    given, passed, failed, skipped = options(), 0, 0, 0
     signal.signal(signal.SIGTERM, lambda number, _: sys.exit(128 + number))
     if given.pictures:
         os.makedirs(given.pictures, exist_ok=True)
-    moments = given.moments or (10 if given.gate else 40)
     with tempfile.TemporaryDirectory() as room:
         try:
-            if given.gate and not installed():
-                raise NoBrowser
-            path = page_of(given, room)
-            with contextlib.closing(Browser(given.port)) as browser:
-                page = Page(browser, path, os.path.abspath(given.jvm), room, moments, given.pictures)
-                page.playground = os.path.abspath(given.playground)
-                for name, why in tried(page, given.words):
-                    skips = isinstance(why, Skipped)
-                    passed, failed, skipped = passed + (not why), failed + (bool(why) and not skips), skipped + skips
-                    if why:
-                        print(f"page: {name}: {'skipped: ' if skips else ''}{why}", flush=True)
-        except NoBrowser:
+            for name, why in tried(given, room):
+                skips = isinstance(why, Skipped)
+                passed, failed, skipped = passed + (not why), failed + (bool(why) and not skips), skipped + skips
+                if why:
+                    print(f"page: {name}: {'skipped: ' if skips else ''}{why}", flush=True)
+        except NoBrowser as why:
             skipped += 1
-            print("page: not tested, no browser")
-        except NoPage:
+            print(f"page: not tested, no browser{': ' if why.args else ''}{why}")
+        except NoPage as why:
             failed += 1
-            print("page: not tested, no page could be built")
+            print(f"page: not tested, {why}")
+        except Exception as error:  # the page doesn't open, or the browser is gone
+            failed += 1
+            print(f"page: no more was tested: {type(error).__name__}: {error}")
     print(f"{passed} passed, {failed} failed" + (f", {skipped} skipped" if skipped else ""))
     return 1 if failed else 0
 

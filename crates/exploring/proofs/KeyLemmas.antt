@@ -1,8 +1,8 @@
-use Rattle.std.proofs.Common.{◌≡◌, ℕ, zero, suc, ◌≤◌, ◌/◌, ◌%◌, ℤ, pos, negsuc, List, [], ◌∷◌, ◌++◌, length, slice_get, get_or}
+use Rattle.std.proofs.Common.{◌≡◌, ℕ, zero, suc, ◌≤◌, ◌/◌, ◌%◌, ℤ, pos, negsuc, List, [], ◌∷◌, ◌++◌, length, map, slice_get, get_or}
 use Rattle.std.proofs.Common.{nat_lt, Bool, true, false, if◌then◌else◌, Option, Some, None, refl, sym, ◌∙◌, ap, arith}
 use Rattle.std.specs.List.{flat_map}
 use Rattle.std.specs.Str.{bytes_eq}
-use Rattle.std.proofs.lemmas.List.{append_assoc}
+use Rattle.std.proofs.lemmas.List.{append_assoc, length-map}
 use Rattle.std.proofs.lemmas.List.Quantifiers.{position-Some}
 use Rattle.std.proofs.lemmas.Slice.Eq.{bytes_eq-Decides}
 use Rattle.model.specs.declared.turns.ClassState.TheVariants.{Unused, Running, Done, Failed}
@@ -17,11 +17,12 @@ use Rattle.model.specs.declared.turns.Status.{Status}
 use Rattle.model.specs.declared.turns.Status.TheVariants.{Running as RunningStatus, Finished, Stuck, Faulted}
 use Rattle.model.specs.Faults.{fault_number}
 use Rattle.exploration.specs.declared.ends.End.TheVariants.{Lives, Ended as HasEnded}
+use Rattle.model.specs.Worlds.{World}
 use Rattle.model.specs.Worlds.Thread.{Live, Ended}
 use Rattle.model.specs.Worlds.Contents.{Instance, Array}
 use Rattle.exploring.specs.Keys.{value, entry, mark, frame, state, fault, bytes, name_at, place_of, name, field, contents}
-use Rattle.exploring.specs.Keys.{object, thread, key, end, status, outcome, KeysTell, OutcomeKeysTell}
-use Rattle.exploring.specs.Keys.{two, four, eight, number, folded, integer, perhaps, each, IsReadBack}
+use Rattle.exploring.specs.Keys.{object, thread, head, rest, pieces, end, status, outcome, PiecesTell, OutcomeKeysTell}
+use Rattle.exploring.specs.Keys.{two, four, eight, large_number, wide_number, number, folded, integer, perhaps, each, IsReadBack}
 
 -- a row of bytes is read back, part by part
 
@@ -68,18 +69,54 @@ eight_back n m s t e =
     let high = k.0.1 in
     (omega (arith, low, high), k.1)
 
-pub number_back : IsReadBack number
-number_back n m s t e = by (nat_lt n 255) (nat_lt m 255) refl refl e
+-- how a number begins that takes more than so many bytes
+large_begins : (n k : ℕ) (s t : List ℕ) → k ∷ t ≡ large_number n ++ s → 254 ≤ k
+large_begins n k s t e = by (nat_lt n 4294967296) e
   where
-    small : (n : ℕ) → nat_lt n 255 ≡ true → n ≡ 255 → ⊥
-    small n k q = grind (arith, k, q)
+    by : (a : Bool) → k ∷ t ≡ (if a then 254 ∷ four n else 255 ∷ eight n) ++ s → 254 ≤ k
+    by true f = (let is = (cons_back k 254 t (four n ++ s) f).0 in omega (arith, is))
+    by false f = (let is = (cons_back k 255 t (eight n ++ s) f).0 in omega (arith, is))
 
-    by : (a b : Bool) → nat_lt n 255 ≡ a → nat_lt m 255 ≡ b
-        → (if a then n ∷ [] else 255 ∷ eight n) ++ s ≡ (if b then m ∷ [] else 255 ∷ eight m) ++ t → (n ≡ m) × (s ≡ t)
+wide_begins : (n k : ℕ) (s t : List ℕ) → k ∷ t ≡ wide_number n ++ s → 253 ≤ k
+wide_begins n k s t e = by (nat_lt n 65536) e
+  where
+    by : (a : Bool) → k ∷ t ≡ (if a then 253 ∷ two n else large_number n) ++ s → 253 ≤ k
+    by true f = (let is = (cons_back k 253 t (two n ++ s) f).0 in omega (arith, is))
+    by false f = (let is = large_begins n k s t f in omega (arith, is))
+
+large_back : IsReadBack large_number
+large_back n m s t e = by (nat_lt n 4294967296) (nat_lt m 4294967296) e
+  where
+    by : (a b : Bool) → (if a then 254 ∷ four n else 255 ∷ eight n) ++ s ≡ (if b then 254 ∷ four m else 255 ∷ eight m) ++ t
+        → (n ≡ m) × (s ≡ t)
+    by true true k = four_back n m s t (cons_back 254 254 (four n ++ s) (four m ++ t) k).1
+    by true false k = absurd (let is = (cons_back 254 255 (four n ++ s) (eight m ++ t) k).0 in omega (arith, is))
+    by false true k = absurd (let is = (cons_back 255 254 (eight n ++ s) (four m ++ t) k).0 in omega (arith, is))
+    by false false k = eight_back n m s t (cons_back 255 255 (eight n ++ s) (eight m ++ t) k).1
+
+wide_back : IsReadBack wide_number
+wide_back n m s t e = by (nat_lt n 65536) (nat_lt m 65536) e
+  where
+    by : (a b : Bool) → (if a then 253 ∷ two n else large_number n) ++ s ≡ (if b then 253 ∷ two m else large_number m) ++ t
+        → (n ≡ m) × (s ≡ t)
+    by true true k = two_back n m s t (cons_back 253 253 (two n ++ s) (two m ++ t) k).1
+    by true false k = absurd (let is = large_begins m 253 t (two n ++ s) k in omega (arith, is))
+    by false true k = absurd (let is = large_begins n 253 s (two m ++ t) (sym k) in omega (arith, is))
+    by false false k = large_back n m s t k
+
+pub number_back : IsReadBack number
+unfolding number
+number_back n m s t e = by (nat_lt n 253) (nat_lt m 253) refl refl e
+  where
+    small : (n : ℕ) → nat_lt n 253 ≡ true → 253 ≤ n → ⊥
+    small n l m = grind (arith, l, m)
+
+    by : (a b : Bool) → nat_lt n 253 ≡ a → nat_lt m 253 ≡ b
+        → (if a then n ∷ [] else wide_number n) ++ s ≡ (if b then m ∷ [] else wide_number m) ++ t → (n ≡ m) × (s ≡ t)
     by true true f g k = cons_back n m s t k
-    by true false f g k = absurd (small n f (cons_back n 255 s (eight m ++ t) k).0)
-    by false true f g k = absurd (small m g (sym (cons_back 255 m (eight n ++ s) t k).0))
-    by false false f g k = eight_back n m s t (cons_back 255 255 (eight n ++ s) (eight m ++ t) k).1
+    by true false f g k = absurd (small n f (wide_begins m n t s k))
+    by false true f g k = absurd (small m g (wide_begins n m s t (sym k)))
+    by false false f g k = wide_back n m s t k
 
 folded_back : (x y : ℤ) → folded x ≡ folded y → x ≡ y
 folded_back (pos n) (pos m) e = (let k : n ≡ m = omega (arith, e) in ap pos k)
@@ -243,14 +280,15 @@ fault_back (Some f) (Some g) s t e =
 
 -- ---- rows of bytes
 
-raw_back : (xs ys s t : List ℕ) → length xs ≡ length ys → xs ++ s ≡ ys ++ t → (xs ≡ ys) × (s ≡ t)
+raw_back : {A : Type 0} (xs ys s t : List A) → length xs ≡ length ys → xs ++ s ≡ ys ++ t → (xs ≡ ys) × (s ≡ t)
 raw_back [] [] s t k e = (refl, e)
 raw_back [] (y ∷ ys) s t k e = absurd (cc)
 raw_back (x ∷ xs) [] s t k e = absurd (cc)
 raw_back (x ∷ xs) (y ∷ ys) s t k e =
-    let one = cons_back x y (xs ++ s) (ys ++ t) e in
-    let rest = raw_back xs ys s t (omega (arith, k)) one.1 in
-    (rw (one.0, rest.0) refl, rest.1)
+    let one : x ≡ y = cc in
+    let tails : xs ++ s ≡ ys ++ t = cc in
+    let rest = raw_back xs ys s t (omega (arith, k)) tails in
+    (rw (one, rest.0) refl, rest.1)
 
 pub bytes_back : IsReadBack bytes
 bytes_back xs ys s t e = counted xs ys (length xs) (length ys) (xs ≡ ys) (λ k u v. raw_back xs ys u v k) s t e
@@ -322,22 +360,60 @@ module _ (table : List (List ℕ)) where
       let k = name_back c d s t (tagged 2 (name table c) (name table d) s t e) in
       (ap (λ (x : List ℕ). Ended (Some x)) k.0, k.1)
 
-  pub key_back : IsReadBack (key table)
-  key_back v w s t e =
-      let fields = and_then _ _ _ _ (of_part (each (thread table)) (each_back (thread table) thread_back) v.threads w.threads)
-      (of_part (each (field table)) (each_back (field table) field_back) v.statics.fields w.statics.fields) in
-      let states = and_then _ _ _ _ fields (of_part (each state) (each_back state state_back) v.statics.states
-      w.statics.states) in
+-- ---- the pieces of a state
+
+heads : (v w : World) → Tells (head v) (head w) ((length v.statics.fields ≡ length w.statics.fields)
+    × (length v.objects ≡ length w.objects) × (v.statics.states ≡ w.statics.states) × (v.output ≡ w.output)
+    × (v.fault ≡ w.fault) × (v.rows ≡ w.rows))
+heads v w = record {
+  told = λ s t e. (
+      let counts = and_then _ _ _ _ (numbers (length v.statics.fields) (length w.statics.fields))
+      (numbers (length v.objects) (length w.objects)) in
+      let states = and_then _ _ _ _ counts (of_part (each state) (each_back state state_back) v.statics.states w.statics.states) in
       let output = and_then _ _ _ _ states (of_part bytes bytes_back v.output w.output) in
-      let objects = and_then _ _ _ _ output (of_part (each (object table)) (each_back (object table) object_back) v.objects
-      w.objects) in
-      let faults = and_then _ _ _ _ objects (of_part fault fault_back v.fault w.fault) in
+      let faults = and_then _ _ _ _ output (of_part fault fault_back v.fault w.fault) in
       let all = (and_then _ _ _ _ faults (numbers v.rows w.rows)).told s t e in
       let k = all.0 in
-      (rw (k.0.0.0.0.0.0, k.0.0.0.0.0.1, k.0.0.0.0.1, k.0.0.0.1, k.0.0.1, k.0.1, k.1) refl, all.1)
+      ((k.0.0.0.0.0, k.0.0.0.0.1, k.0.0.0.1, k.0.0.1, k.0.1, k.1), all.1)
+      );
+}
 
-pub keys_tell : KeysTell
-keys_tell table v w e = (key_back table v w [] [] (ap (λ xs. xs ++ []) e)).0
+-- a piece for each
+module _ {A : Type 0} (part : A → List ℕ) (back : IsReadBack part) where
+  each_piece : (xs ys : List A) → map part xs ≡ map part ys → xs ≡ ys
+  each_piece [] [] e = refl
+  each_piece [] (y ∷ ys) e = absurd (cc)
+  each_piece (x ∷ xs) [] e = absurd (cc)
+  each_piece (x ∷ xs) (y ∷ ys) e =
+      let here : part x ≡ part y = cc in
+      let there : map part xs ≡ map part ys = cc in
+      rw ((back x y [] [] (ap (λ zs. zs ++ []) here)).0, each_piece xs ys there) refl
+
+  some_pieces : (xs ys : List A) (s t : List (List ℕ)) → length xs ≡ length ys → map part xs ++ s ≡ map part ys ++ t
+      → (xs ≡ ys) × (s ≡ t)
+  some_pieces xs ys s t k e =
+      let both = raw_back (map part xs) (map part ys) s t (length-map xs part ∙ k ∙ sym (length-map ys part)) e in
+      (each_piece xs ys both.0, both.1)
+
+-- two rows after another
+apart : (xs ys zs us vs ws : List (List ℕ)) → xs ++ ys ++ zs ≡ us ++ vs ++ ws → xs ++ (ys ++ zs) ≡ us ++ (vs ++ ws)
+apart xs ys zs us vs ws e = sym (append_assoc xs ys zs) ∙ e ∙ append_assoc us vs ws
+
+pub pieces_tell : PiecesTell
+pieces_tell table v w e =
+    let first : head v ≡ head w = cc in
+    let after : rest table v ≡ rest table w = cc in
+    let k = ((heads v w).told [] [] (ap (λ xs. xs ++ []) first)).0 in
+    let objects_v = map (object table) v.objects in
+    let objects_w = map (object table) w.objects in
+    let threads_v = map (thread table) v.threads in
+    let threads_w = map (thread table) w.threads in
+    let fields = some_pieces (field table) (field_back table) v.statics.fields w.statics.fields (objects_v ++ threads_v)
+    (objects_w ++ threads_w) k.0 (apart (map (field table) v.statics.fields) objects_v threads_v
+    (map (field table) w.statics.fields) objects_w threads_w after) in
+    let objects = some_pieces (object table) (object_back table) v.objects w.objects threads_v threads_w k.1 fields.1 in
+    let threads = each_piece (thread table) (thread_back table) v.threads w.threads objects.1 in
+    rw (threads, fields.0, k.2, k.3, objects.0, k.4, k.5) refl
 
 -- ---- outcomes
 

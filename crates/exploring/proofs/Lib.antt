@@ -1,5 +1,6 @@
 pub mod AheadLemmas
 pub mod CanonicalLemmas
+pub mod ChainLemmas
 pub mod ExpansionLemmas
 pub mod ExplorationLemmas
 pub mod KeyLemmas

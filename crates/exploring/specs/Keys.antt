@@ -1,4 +1,4 @@
-use Rattle.std.specs.Prelude.{◌≡◌, ℕ, ◌+◌, ◌/◌, ◌%◌, ℤ, pos, negsuc, List, [], ◌∷◌, ◌++◌, length, nat_lt, Option, Some, None}
+use Rattle.std.specs.Prelude.{◌≡◌, ℕ, ◌+◌, ◌/◌, ◌%◌, ℤ, pos, negsuc, List, [], ◌∷◌, ◌++◌, length, map, nat_lt, Option, Some, None}
 use Rattle.std.specs.Prelude.{if◌then◌else◌}
 use Rattle.std.specs.List.{flat_map, position}
 use Rattle.std.specs.Str.{bytes_eq}
@@ -22,9 +22,10 @@ use Rattle.exploration.specs.declared.ends.End.{End}
 use Rattle.exploration.specs.declared.ends.End.TheVariants.{Lives, Ended as HasEnded}
 use Rattle.exploration.specs.Observations.{Observed}
 
--- The key of a state: a row of bytes from which the whole world can be read back. So states are alike where their keys are.
+-- What a state is made of, as rows of bytes from which the whole world can be read back. So states are alike where their
+-- pieces are.
 
--- ---- numbers: one byte for most, nine for any
+-- ---- numbers: one byte for most, three, five or nine for others
 
 abbrev pub two : ℕ → List ℕ
 two n = n % 256 ∷ n / 256 ∷ []
@@ -35,8 +36,14 @@ four n = two (n % 65536) ++ two (n / 65536)
 abbrev pub eight : ℕ → List ℕ
 eight n = four (n % 4294967296) ++ four (n / 4294967296)
 
-abbrev pub number : ℕ → List ℕ
-number n = if nat_lt n 255 then n ∷ [] else 255 ∷ eight n
+abbrev pub large_number : ℕ → List ℕ
+large_number n = if nat_lt n 4294967296 then 254 ∷ four n else 255 ∷ eight n
+
+abbrev pub wide_number : ℕ → List ℕ
+wide_number n = if nat_lt n 65536 then 253 ∷ two n else large_number n
+
+unfoldable pub number : ℕ → List ℕ
+number n = if nat_lt n 253 then n ∷ [] else wide_number n
 
 -- ints and longs as numbers: 0, -1, 1, -2, 2 ..
 abbrev pub folded : ℤ → ℕ
@@ -119,9 +126,19 @@ module _ (table : List (List ℕ)) where
   thread (Ended None) = 1 ∷ []
   thread (Ended (Some class)) = 2 ∷ name class
 
-  abbrev pub key : World → List ℕ
-  key w = each thread w.threads ++ each field w.statics.fields ++ each state w.statics.states ++ bytes w.output
-      ++ each object w.objects ++ fault w.fault ++ number w.rows
+  -- the pieces after the first: those that change least come first
+  abbrev pub rest : World → List (List ℕ)
+  rest w = map field w.statics.fields ++ map object w.objects ++ map thread w.threads
+
+-- ---- the pieces of a state
+
+-- the first piece: how many fields and objects there are, and all that isn't one of them, or a thread
+abbrev pub head : World → List ℕ
+head w = number (length w.statics.fields) ++ number (length w.objects) ++ each state w.statics.states ++ bytes w.output
+    ++ fault w.fault ++ number w.rows
+
+abbrev pub pieces : List (List ℕ) → World → List (List ℕ)
+pieces table w = head w ∷ rest table w
 
 -- ---- outcomes, which have few names
 
@@ -145,10 +162,10 @@ outcome o = bytes o.output ++ fault o.fault ++ each end o.ends ++ status o.statu
 abbrev pub IsReadBack : {A : Type 0} → (A → List ℕ) → Type 0
 IsReadBack {A} part = (x y : A) (s t : List ℕ) → part x ++ s ≡ part y ++ t → (x ≡ y) × (s ≡ t)
 
--- so worlds whose keys are equal are equal
-abbrev pub KeysTell : Type 0
-KeysTell = (table : List (List ℕ)) (v w : World) → key table v ≡ key table w → v ≡ w
+-- so worlds whose pieces are equal are equal
+abbrev pub PiecesTell : Type 0
+PiecesTell = (table : List (List ℕ)) (v w : World) → pieces table v ≡ pieces table w → v ≡ w
 
--- and so are outcomes
+-- and outcomes whose keys are
 abbrev pub OutcomeKeysTell : Type 0
 OutcomeKeysTell = (o p : Observed) → outcome o ≡ outcome p → o ≡ p

@@ -1,5 +1,6 @@
 pub mod Ahead
 pub mod Canonical
+pub mod Chains
 pub mod Expansion
 pub mod Explorations
 pub mod Keys

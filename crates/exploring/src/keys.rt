@@ -1,4 +1,4 @@
-//! The key of a state: a row of bytes by which states are told apart.
+//! Rows of bytes by which pieces of states, and outcomes, are told apart.
 ghost use Rattle.std.specs.Prelude.{◌≡◌, ◌<◌, ◌∷◌, [], ◌++◌, ℕ, List, IfOk, OnOk};
 ghost use Rattle.std.specs.List.{flat_map};
 ghost use Rattle.std.specs.Str.{bytes_eq};
@@ -8,8 +8,9 @@ ghost use Rattle.std.specs.Cmp.Rules.{hashing};
 ghost use Rattle.std.proofs.Common.{rules};
 ghost use Rattle.std.proofs.lemmas.Cmp.{nat_list_eq_equiv};
 ghost use Rattle.model.specs.Views.{contents_in};
-ghost use Rattle.exploring.specs.Keys.{two, four, eight, number, folded, integer, perhaps, each, bytes, name_at};
-ghost use Rattle.exploring.specs.Keys.{value, entry, mark, frame, state, fault, name, field, contents, object, thread, key};
+ghost use Rattle.exploring.specs.Keys.{two, four, eight, large_number, wide_number, number, folded, integer, perhaps, each};
+ghost use Rattle.exploring.specs.Keys.{bytes, name_at};
+ghost use Rattle.exploring.specs.Keys.{value, entry, mark, frame, state, fault, name, field, contents, object, thread, head};
 ghost use Rattle.exploring.specs.Keys.{end, status, outcome};
 
 use crate::explored::Outcome;
@@ -36,6 +37,9 @@ impl Model for Key {
 
     ghost view = { λ a. a.bytes.items };
 }
+
+/// How many bytes most pieces have at most.
+const USUAL: usize = 64;
 
 /// Keys are equal where their bytes are.
 impl PartialEq for Key {
@@ -82,16 +86,30 @@ impl Key {
         self.bytes.as_slice()
     }
 
-    /// No bytes.
-    fn new(alloc: Global) -> Key
-        ensures { result ≡ [] }
+    /// No bytes, with room for those of most pieces. `AllocError` where memory runs out, here and below.
+    pub fn new(alloc: Global) -> Result<Key, AllocError>
+        ensures { IfOk result (λ made. made ≡ []) }
     {
-        Key {
-            bytes: Vec::new(alloc),
-        }
+        let bytes = Vec::with_capacity(alloc, USUAL)?;
+        Ok(Key { bytes })
     }
 
-    /// One byte more. `AllocError` where memory runs out, here and below.
+    /// The same bytes, with room for no more.
+    pub fn copy(&self, alloc: Global) -> Result<Key, AllocError>
+        ensures { IfOk result (λ made. made ≡ self.now) }
+    {
+        let bytes = Vec::from_slice(alloc, self.as_bytes())?;
+        Ok(Key { bytes })
+    }
+
+    /// No bytes again.
+    pub fn clear(&mut self)
+        ensures { self.new ≡ [] }
+    {
+        self.bytes.clear();
+    }
+
+    /// One byte more.
     fn add(&mut self, byte: u8) -> Result<(), AllocError>
         ensures { OnOk result (self.new ≡ self.old ++ byte ∷ []) }
     {
@@ -122,14 +140,37 @@ impl Key {
         self.add_four((n / 4_294_967_296) as u32)
     }
 
-    fn add_number(&mut self, n: u64) -> Result<(), AllocError>
-        ensures { OnOk result (self.new ≡ self.old ++ number n) }
+    fn add_large_number(&mut self, n: u64) -> Result<(), AllocError>
+        ensures { OnOk result (self.new ≡ self.old ++ large_number n) }
     {
-        if n < 255 {
-            self.add(n as u8)
+        if n < 4_294_967_296 {
+            self.add(254)?;
+            self.add_four(n as u32)
         } else {
             self.add(255)?;
             self.add_eight(n)
+        }
+    }
+
+    fn add_wide_number(&mut self, n: u64) -> Result<(), AllocError>
+        ensures { OnOk result (self.new ≡ self.old ++ wide_number n) }
+    {
+        if n < 65_536 {
+            self.add(253)?;
+            self.add_two(n as u16)
+        } else {
+            self.add_large_number(n)
+        }
+    }
+
+    #[tactic(auto, unfolding(crate::specs::Keys::number))]
+    fn add_number(&mut self, n: u64) -> Result<(), AllocError>
+        ensures { OnOk result (self.new ≡ self.old ++ number n) }
+    {
+        if n < 253 {
+            self.add(n as u8)
+        } else {
+            self.add_wide_number(n)
         }
     }
 
@@ -296,7 +337,7 @@ impl Key {
         }
     }
 
-    fn add_field(&mut self, names: &Names, added: &FieldView) -> Result<(), AllocError>
+    pub fn add_field(&mut self, names: &Names, added: &FieldView) -> Result<(), AllocError>
         ensures { OnOk result (self.new ≡ self.old ++ field names.now added.now) }
     {
         self.add_name(names, &added.class)?;
@@ -332,7 +373,7 @@ impl Key {
         }
     }
 
-    fn add_object(&mut self, names: &Names, added: &ObjectView) -> Result<(), AllocError>
+    pub fn add_object(&mut self, names: &Names, added: &ObjectView) -> Result<(), AllocError>
         ensures { OnOk result (self.new ≡ self.old ++ object names.now added.now) }
     {
         self.add_contents(names, &added.contents)?;
@@ -341,17 +382,7 @@ impl Key {
         self.add_perhaps(added.thread)
     }
 
-    fn add_objects(&mut self, names: &Names, added: &[ObjectView]) -> Result<(), AllocError>
-        ensures { OnOk result (self.new ≡ self.old ++ each (object names.now) added.now) }
-    {
-        self.add_number(added.len() as u64)?;
-        for one in added {
-            self.add_object(names, one)?;
-        }
-        Ok(())
-    }
-
-    fn add_thread(&mut self, names: &Names, added: &Thread) -> Result<(), AllocError>
+    pub fn add_thread(&mut self, names: &Names, added: &Thread) -> Result<(), AllocError>
         ensures { OnOk result (self.new ≡ self.old ++ thread names.now added.now) }
     {
         match &added.state {
@@ -367,35 +398,16 @@ impl Key {
         }
     }
 
-    fn add_threads(&mut self, names: &Names, added: &[Thread]) -> Result<(), AllocError>
-        ensures { OnOk result (self.new ≡ self.old ++ each (thread names.now) added.now) }
+    /// The first piece of a state: what isn't a field, an object or a thread.
+    pub fn add_head(&mut self, added: &World) -> Result<(), AllocError>
+        ensures { OnOk result (self.new ≡ self.old ++ head added.now) }
     {
-        self.add_number(added.len() as u64)?;
-        for one in added {
-            self.add_thread(names, one)?;
-        }
-        Ok(())
-    }
-
-    fn add_world(&mut self, names: &Names, added: &World) -> Result<(), AllocError>
-        ensures { OnOk result (self.new ≡ self.old ++ key names.now added.now) }
-    {
-        self.add_threads(names, added.threads())?;
-        self.add_fields(names, added.statics())?;
+        self.add_number(added.statics().len() as u64)?;
+        self.add_number(added.objects().len() as u64)?;
         self.add_states(added.states())?;
         self.add_bytes(added.output())?;
-        self.add_objects(names, added.objects())?;
         self.add_fault(added.fault())?;
         self.add_number(u64::from(added.rows()))
-    }
-
-    /// The key of a world: worlds whose keys are equal are equal. `AllocError` where memory runs out.
-    pub fn of(alloc: Global, names: &Names, world: &World) -> Result<Key, AllocError>
-        ensures { IfOk result (λ made. made ≡ key names.now world.now) }
-    {
-        let mut made = Key::new(alloc);
-        made.add_world(names, world)?;
-        Ok(made)
     }
 
     // ---- outcomes
@@ -447,7 +459,7 @@ impl Key {
     pub fn of_outcome(alloc: Global, added: &Outcome) -> Result<Key, AllocError>
         ensures { IfOk result (λ made. made ≡ outcome added.now) }
     {
-        let mut made = Key::new(alloc);
+        let mut made = Key::new(alloc)?;
         made.add_outcome(added)?;
         Ok(made)
     }

@@ -1,10 +1,11 @@
 //! The states of a program that a search through its schedules finds: canonical forms of worlds, a set of them, in which
-//! each is known by a row of bytes, what the turns of a state lead to, and parts by which an exploration is shared out.
+//! each is known by a chain of pieces, what the turns of a state lead to, and parts by which an exploration is shared out.
 #![tactic(auto)]
 
-ghost use Rattle.exploring.specs.Keys.{KeysTell};
+ghost use Rattle.exploring.specs.States.{KeysTell};
 
 mod ahead;
+mod chains;
 mod explored;
 mod forms;
 mod keys;
@@ -12,6 +13,7 @@ mod names;
 mod origins;
 mod outcomes;
 mod parts;
+mod pieces;
 mod schedules;
 mod search;
 mod starts;
@@ -26,7 +28,7 @@ pub use parts::{Part, split};
 pub use schedules::{explore, explore_after};
 pub use states::States;
 
-/// Worlds whose keys are equal are equal, whichever names the table has.
+/// Worlds that have one key are equal, whichever names the table has.
 pub fn keys_tell()
     ensures { KeysTell }
 {}

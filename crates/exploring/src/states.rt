@@ -2,20 +2,22 @@
 ghost use Rattle.std.specs.Prelude.{◌≡◌, List, [], IfOk, length};
 ghost use Rattle.exploring.specs.States.{AddsState, HasStates};
 
-use crate::keys::Key;
+use crate::chains::{Chains, Link};
 use crate::names::Names;
+use crate::pieces::add_state;
 use ideal_run::worlds::World;
 use indexmap::IndexSet;
 use model::listings::Listing;
 use std::alloc::{AllocError, Global};
 use std::marker::Model;
 
-/// States, each once, in the order in which they came; of each its key is kept, and compared whole. A contract sees the
-/// table of names and the keys. Which states these are is said by `HasStates`.
+/// States, each once, in the order in which they came: of each its key is kept, the last link of a chain that says all of
+/// the state. A contract sees the table of names, the chains and the keys. Which states these are is said by `HasStates`.
 #[derive(Drop)]
 pub struct States {
     names: Names,
-    keys: IndexSet<Key>,
+    chains: Chains,
+    keys: IndexSet<Link>,
 }
 
 impl Model for States {
@@ -23,7 +25,7 @@ impl Model for States {
 
     ghost Value = { Stored };
 
-    ghost view = { λ a. record { table = a.names; keys = a.keys.keys } };
+    ghost view = { λ a. record { table = a.names; chains = a.chains; keys = a.keys.keys } };
 }
 
 impl States {
@@ -33,6 +35,7 @@ impl States {
     {
         Ok(States {
             names: Names::new(alloc, program)?,
+            chains: Chains::new(alloc),
             keys: IndexSet::new(alloc),
         })
     }
@@ -49,7 +52,8 @@ impl States {
         ensures { (states : List World) → HasStates self.old states
             → IfOk result (λ new. AddsState self.new states state.now new) }
     {
-        let key = Key::of(alloc, &self.names, state)?;
+        add_state(&mut self.chains, alloc, &self.names, state)?;
+        let key = self.chains.last_link();
         let (_, new) = self.keys.insert_full(key)?;
         Ok(new)
     }

@@ -27,12 +27,20 @@ pub struct Stops<'m> {
 }
 
 impl Stops<'_> {
+    /// Whether turns end before no place.
+    #[inline(always)]
+    pub(crate) fn are_none(self) -> bool
+        ensures { result ≡ true → (place : CodePlace) → is_stop self.entry place ≡ false }
+    {
+        self.marks.is_empty()
+    }
+
     /// Whether turns end before a place.
     #[inline(always)]
     pub fn has(self, place: CodePlace) -> bool
         ensures { result ≡ is_stop self.entry place }
     {
-        if self.marks.is_empty() {
+        if self.are_none() {
             return false;
         }
         match self.marks.get(number_of(place)) {

@@ -11,7 +11,7 @@ use Rattle.model.specs.declared.turns.Turn.{Turn}
 use Rattle.model.specs.declared.turns.Turn.TheVariants.{Done as TurnDone, Fault, NotReady, OutputFull, StepLimit}
 use Rattle.model.specs.declared.turns.Turn.TheVariants.{Stopped}
 use Rattle.model.specs.Journals.{JournalValue, with_row}
-use Rattle.model.specs.Machines.{Recorded, after_turn_by, row_for, reported_of, with_row as recorded_with}
+use Rattle.model.specs.Machines.{Recorded, after_turn_by, row_for, with_row as recorded_with}
 use Rattle.model.specs.Observers.{is_running, pick_of, status_of}
 use Rattle.instructions.specs.FirstTurns.{IsFirstTurn}
 use Rattle.instructions.specs.Loaded.{Loaded}
@@ -21,8 +21,7 @@ use Rattle.instructions.proofs.NotedRoundLemmas.{times-length, times-limits}
 use Rattle.scheduler.specs.Rounds.{LeadsOn, after_round, after_rounds, done_by, is_done, picked}
 use Rattle.scheduler.specs.Rounds.{picked_answer, rounds_answer, rounds_left, turned_by}
 use Rattle.scheduler.specs.Worlds.{IsOf, recorded}
-use Rattle.scheduler.proofs.FirstTurns.{first_answer, first_fits, first_noted, first_picked}
-use Rattle.scheduler.proofs.Noting.{answer_is}
+use Rattle.scheduler.proofs.FirstTurns.{first_done, first_fits, first_noted, first_picked}
 
 -- ---- rounds with no turn of the collector, seen from the first one
 
@@ -165,6 +164,9 @@ module _ (v w : Recorded) (worker n : ℕ) (on : LeadsOn v worker 0 n w) where
   made-answer one =
       sym (on.answer 0) ∙ ap (λ (k : ℕ). rounds_answer v worker 0 (k + 0)) one ∙ one-answer v worker
 
+  pub still-same : n ≡ 0 → w ≡ v
+  still-same none = sym (on.world 0) ∙ ap (λ (k : ℕ). after_rounds v worker 0 (k + 0)) none
+
   pub still-world : n ≡ 0 → picked w worker ≡ picked v worker
   still-world none =
       sym (one-world w worker) ∙ sym (on.world 1) ∙ ap (λ (k : ℕ). after_rounds v worker 0 (k + 1)) none
@@ -201,9 +203,7 @@ module _ (s : Loaded) (j : JournalValue) (k worker thread : ℕ) (is : IsOf s j 
       in
       let same : recorded after (with_row jn row) ≡ picked u worker = first_picked x jn kn leads.is worker thread Done
       after made in
-      let answer : picked_answer u worker ≡ TurnDone =
-      sym (first_answer x jn kn leads.is worker thread Done after made)
-      ∙ sym (answer_is after (with_row jn row) (thread + 1) still) ∙ ap reported_of faultless in
+      let answer = first_done x jn kn leads.is worker thread Done after made faultless in
       let fits = first_fits x jn kn leads.is worker thread Done after made in
       let long = times-length j row n in
       let limits = ap (λ (l : Limits). l.steps) (times-limits j row n) in

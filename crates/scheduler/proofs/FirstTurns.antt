@@ -1,8 +1,11 @@
 -- The turn of the thread that is picked, where one look at its step showed that it may be made.
-use Rattle.std.proofs.Common.{◌≡◌, ◌<◌, ◌+◌, ℕ, length, Some, None, ap, sym, subst, ◌∙◌}
+use Rattle.std.proofs.Common.{◌≡◌, ◌<◌, ◌+◌, ℕ, length, Option, Some, None, false, ap, sym, subst, ◌∙◌}
+use Rattle.std.specs.Prelude.{IfSome}
 use Rattle.model.specs.declared.journals.Outcome.{Outcome}
 use Rattle.model.specs.declared.journals.Row.{Row}
+use Rattle.model.specs.declared.places.CodePlace.{CodePlace}
 use Rattle.model.specs.declared.turns.Actor.TheVariants.{Thread}
+use Rattle.model.specs.declared.turns.Turn.TheVariants.{Done}
 use Rattle.model.specs.Journals.{JournalValue, with_row}
 use Rattle.model.specs.Machines.{Recorded, after_turn_by, answer_to, answer_unless_refused, noted, reported_of}
 use Rattle.model.specs.Observers.{ideal, pick_of}
@@ -10,9 +13,13 @@ use Rattle.model.specs.Turns.{refusal}
 use Rattle.join.specs.TurnsOnCells.{outcome_on}
 use Rattle.instructions.specs.FirstTurns.{IsFirstTurn}
 use Rattle.instructions.specs.Loaded.{Loaded}
-use Rattle.scheduler.specs.Rounds.{answered_by, picked, picked_answer, turned_by}
+use Rattle.instructions.specs.LoneRounds.{StandsAtNone}
+use Rattle.instructions.specs.Stops.{is_stop}
+use Rattle.instructions.specs.declared.stops.Stops.{Stops}
+use Rattle.scheduler.specs.Rounds.{PicksPast, answered_by, picked, picked_answer, turned_by}
 use Rattle.scheduler.specs.Worlds.{IsOf, recorded}
-use Rattle.scheduler.proofs.Noting.{after_is, noted_is, pick_is, refusal_is, row_fits}
+use Rattle.scheduler.proofs.Noting.{after_is, answer_is, noted_is, pick_is, refusal_is, row_fits}
+use Rattle.scheduler.proofs.Observing.{place_is}
 
 module _ (s : Loaded) (j : JournalValue) (k : ℕ) (is : IsOf s j k) (worker t : ℕ) (outcome : Outcome) (after : Loaded)
     (made : IsFirstTurn s k after (t, outcome)) where
@@ -54,3 +61,16 @@ module _ (s : Loaded) (j : JournalValue) (k : ℕ) (is : IsOf s j k) (worker t :
   pub first_answer : reported_of (ideal (recorded after (with_row j (row outcome)))).fault ≡ picked_answer v worker
   first_answer = ap (λ (u : Recorded). reported_of (ideal u).fault) turned ∙ sym answered
       ∙ sym (ap (answered_by v worker) pick)
+
+  -- it is done where there is no fault after it
+  pub first_done : after.machine.world.fault ≡ None → picked_answer v worker ≡ Done
+  first_done faultless =
+      sym first_answer ∙ sym (answer_is after (with_row j (row outcome)) (t + 1) first_noted) ∙ ap reported_of faultless
+
+  -- a thread that stands at no stop is picked there
+  pub first_past : (stops : Stops) → StandsAtNone stops s t → PicksPast stops v
+  first_past stops past = (
+    t,
+    pick,
+    subst (λ (o : Option CodePlace). IfSome o (λ place. is_stop stops place ≡ false)) (place_is s j k is t) past,
+  )

@@ -14,4 +14,5 @@ pub mod Bursts
 pub mod LosesNothing
 pub mod HeldCells
 pub mod Observing
+pub mod PastStops
 pub mod Picking

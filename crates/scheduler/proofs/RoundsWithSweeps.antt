@@ -1,38 +1,34 @@
 -- Many rounds with turns of the collector in one call: the worlds that they lead to, and what they answer.
 use Rattle.std.proofs.Common.{◌≡◌, ◌<◌, ◌≤◌, ◌+◌, ◌-◌, ◌∷◌, ℕ, zero, suc, List, [], length, length-append, Bool, true}
 use Rattle.std.proofs.Common.{false, Option, Some, None, refl, ap, sym, subst, ◌∙◌, arith}
-use Rattle.std.specs.Prelude.{IfSome, if◌then◌else◌, is_some, nat_le}
+use Rattle.std.specs.Prelude.{if◌then◌else◌, is_some, nat_le}
 use Rattle.std.proofs.lemmas.Bool.{leb-true}
 use Rattle.model.specs.declared.journals.Limits.{Limits}
 use Rattle.model.specs.declared.journals.Outcome.{Outcome}
 use Rattle.model.specs.declared.journals.Outcome.TheVariants.{Done}
-use Rattle.model.specs.declared.places.CodePlace.{CodePlace}
 use Rattle.model.specs.declared.turns.Actor.TheVariants.{Collector}
 use Rattle.model.specs.declared.turns.Fault.{Fault}
 use Rattle.model.specs.declared.turns.Status.TheVariants.{Running}
 use Rattle.model.specs.declared.turns.Turn.TheVariants.{StepLimit}
 use Rattle.model.specs.Journals.{JournalValue, with_row}
-use Rattle.model.specs.Machines.{Recorded, after_turn_by, reported_of}
+use Rattle.model.specs.Machines.{Recorded, after_turn_by}
 use Rattle.model.specs.Observers.{ideal, is_running, status_by, status_of}
 use Rattle.model.specs.Ready.{some_is_ready, some_lives}
 use Rattle.model.specs.Turns.{refusal, refusal_after}
 use Rattle.instructions.specs.Loaded.{Loaded}
-use Rattle.instructions.specs.LoneRounds.{FirstRounds, FirstTurnIf, IsFirstRound, LeadsThrough, StandsAtNone, Sweeps}
+use Rattle.instructions.specs.LoneRounds.{FirstRounds, FirstTurnIf, IsFirstRound, LeadsThrough, Sweeps}
 use Rattle.instructions.specs.LoneRounds.{collected_by, noted_if, noted_rounds, noted_times, thread_row}
 use Rattle.instructions.specs.declared.lone_rounds.Rounds.{Rounds}
 use Rattle.instructions.specs.declared.stops.Stops.{Stops}
-use Rattle.instructions.specs.FirstTurns.{IsFirstTurn}
 use Rattle.instructions.specs.PlainRuns.{start_after}
-use Rattle.instructions.specs.Stops.{is_stop}
 use Rattle.instructions.proofs.NotedRoundLemmas.{rounds-workers, times-length, times-limits}
-use Rattle.scheduler.specs.Rounds.{IsRoundPast, LeadsInto, LeadsOn, LeadsPast, PickedIf, PickedPast, PicksPast}
+use Rattle.scheduler.specs.Rounds.{IsRoundPast, LeadsInto, LeadsOn, LeadsPast, PickedIf, PickedPast}
 use Rattle.scheduler.specs.Rounds.{RoundsPast, after_round, after_rounds, collections, done_by, is_done, picked}
 use Rattle.scheduler.specs.Rounds.{picked_answer, rounds_answer, rounds_left, swept}
 use Rattle.scheduler.specs.Worlds.{IsOf, recorded}
 use Rattle.scheduler.proofs.Bursts.{answer-left, leads-none, left-left, one-further, world-left}
-use Rattle.scheduler.proofs.FirstTurns.{first_answer, first_noted, first_picked}
-use Rattle.scheduler.proofs.Noting.{after_is, answer_is, back, noted_is, pick_is, refusal_is}
-use Rattle.scheduler.proofs.Observing.{place_is}
+use Rattle.scheduler.proofs.FirstTurns.{first_done, first_noted, first_past, first_picked}
+use Rattle.scheduler.proofs.Noting.{after_is, back, noted_is, refusal_is}
 use Rattle.scheduler.proofs.RoundsLeft.{answer-first, left-first, round-swept, rounds-first}
 
 -- ---- turns of the collector
@@ -103,15 +99,6 @@ pub record Leads (s : Loaded) (j : JournalValue) (k : ℕ) (stops : Stops) (work
   pub past : RoundsPast stops (recorded s j) worker gc (length outcomes)
       (recorded after (noted_rounds j worker gc outcomes))
 
--- a thread that is the first ready one and stands at no stop is picked there
-picks_past : (x : Loaded) (jn : JournalValue) (kn : ℕ) → IsOf x jn kn → (stops : Stops) (outcome : Outcome)
-    (made : Loaded) → IsFirstTurn x kn made (0, outcome) → StandsAtNone stops x 0 → PicksPast stops (recorded x jn)
-picks_past x jn kn is stops outcome made turn past = (
-  0,
-  sym (pick_is x jn kn is) ∙ turn.picked,
-  subst (λ (o : Option CodePlace). IfSome o (λ place. is_stop stops place ≡ false)) (place_is x jn kn is 0) past,
-)
-
 -- one round
 module _ (x : Loaded) (jn : JournalValue) (kn : ℕ) (is : IsOf x jn kn) (stops : Stops) (worker gc : ℕ)
     (outcome : Outcome) (after : Loaded) (round : IsFirstRound x stops kn 0 gc outcome after) where
@@ -133,9 +120,7 @@ module _ (x : Loaded) (jn : JournalValue) (kn : ℕ) (is : IsOf x jn kn) (stops 
       round.runs
 
   round_done : is_done (picked_answer u worker) ≡ true
-  round_done =
-      ap is_done (sym (first_answer x jn kn is worker 0 outcome round.made round.turn)
-      ∙ sym (answer_is round.made j_made 1 made_is) ∙ ap reported_of made_faultless)
+  round_done = ap is_done (first_done x jn kn is worker 0 outcome round.made round.turn made_faultless)
 
   round_running : status_of (picked u worker) ≡ Running
   round_running = ap status_of (sym made_picked) ∙ sym (back round.made j_made 1 made_is).status ∙ round.runs
@@ -168,7 +153,7 @@ module _ (x : Loaded) (jn : JournalValue) (kn : ℕ) (is : IsOf x jn kn) (stops 
       let steps : round.made.limits.steps ≡ jn.limits.steps = ap (λ (l : Limits). l.steps) made_is.limits_are in
       let same = ap (λ (v : Recorded). v.journal.limits.steps) made_picked in
       record {
-        past = picks_past x jn kn is stops outcome round.made round.turn round.past;
+        past = first_past x jn kn is worker 0 outcome round.made round.turn stops round.past;
         done = round_done;
         runs = ap is_running round_running;
         room = omega (arith, read, rows, room, steps, same);
@@ -240,12 +225,11 @@ module _ (s : Loaded) (j : JournalValue) (k : ℕ) (is : IsOf s j k) (stops : St
       turn.0 in
       let next : suc n ≡ n + 1 = omega arith in
       let picked_is = first_picked x jn kn leads.is worker 0 Done after turn.0 in
-      let done = ap is_done (sym (first_answer x jn kn leads.is worker 0 Done after turn.0)
-      ∙ sym (answer_is after (with_row jn (done_by 0 worker)) 1 still) ∙ ap reported_of turn.1) in
+      let done = ap is_done (first_done x jn kn leads.is worker 0 Done after turn.0 turn.1) in
       record {
         joined = subst (λ (m : ℕ). IsOf after (with_row jn (done_by 0 worker)) (start_after k 0 m)) next still;
         into = (picked_is, done);
-        past = (picks_past x jn kn leads.is stops Done after turn.0 turn.2, picked_is, done);
+        past = (first_past x jn kn leads.is worker 0 Done after turn.0 stops turn.2, picked_is, done);
       }
   begun_as outcomes x leads false after turn =
       let n = length outcomes in

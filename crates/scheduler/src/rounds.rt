@@ -1,9 +1,13 @@
 //! Rounds: the turns of the threads that are picked, and the collector's between them.
-ghost use Rattle.std.specs.Prelude.{◌≡◌, ◌<◌};
-ghost use Rattle.scheduler.specs.Rounds.{after_round, after_rounds, collections, is_done, picked, picked_answer};
-ghost use Rattle.scheduler.specs.Rounds.{rounds_answer, rounds_left, swept};
+ghost use Rattle.std.specs.Prelude.{◌≡◌, ◌<◌, ◌≤◌, ◌+◌, nat_le, true};
+ghost use Rattle.model.specs.Observers.{ideal, is_running, status_of};
+ghost use Rattle.scheduler.specs.Rounds.{LeadsPast, PickedPast, after_round, after_rounds, collections, is_done};
+ghost use Rattle.scheduler.specs.Rounds.{picked, picked_answer, rounds_answer, rounds_left, swept};
 
 use crate::worlds::World;
+use instructions::lone_rounds::Rounds;
+use instructions::noted_rounds::Pace;
+use instructions::stops::{Stops, no_stops};
 use model::turns::{Actor, Status, Turn};
 
 /// Whether a turn that answers this was done.
@@ -28,6 +32,7 @@ pub struct RoundsMade {
 
 impl World {
     /// The turn of the thread that is picked, as it comes about for any of them; `NotReady` where none is.
+    #[inline(never)]
     fn turn_of_ready(&mut self, worker: u8) -> Turn
         requires { worker < self.old.journal.workers }
         ensures world { self.new ≡ picked self.old worker }
@@ -40,16 +45,16 @@ impl World {
     }
 
     /// The same, where one look at the thread's step may serve.
-    // Apart, so that what a turn of any kind needs costs those nothing that change a frame alone.
-    #[inline(never)]
+    #[inline(always)]
     fn turn_by_look(&mut self, worker: u8) -> Turn
         requires { worker < self.old.journal.workers }
         ensures world { self.new ≡ picked self.old worker }
         ensures answer { result ≡ picked_answer self.old worker }
     {
-        match self.turn_of_first(worker) {
-            Some(answer) => answer,
-            None => self.turn_of_ready(worker),
+        if self.turn_of_first(worker, no_stops()) {
+            Turn::Done
+        } else {
+            self.turn_of_ready(worker)
         }
     }
 
@@ -60,7 +65,7 @@ impl World {
         ensures world { self.new ≡ picked self.old worker }
         ensures answer { result ≡ picked_answer self.old worker }
     {
-        if self.rounds_in_turn(worker, 1) > 0 {
+        if self.rounds_in_turn(worker, no_stops(), 1) > 0 {
             Turn::Done
         } else {
             self.turn_by_look(worker)
@@ -168,6 +173,92 @@ impl World {
             }
             left -= 1;
         }
+    }
+
+    /// The turn of the thread that is picked, made by a worker, where it stands at no stop and one look at its step
+    /// serves. Answers whether it was made: it is done then. If not, nothing changes.
+    fn turn_past(&mut self, worker: u8, stops: Stops<'_>) -> bool
+        requires { worker < self.old.journal.workers }
+        ensures turn { PickedPast stops.entry self.old worker result self.new }
+        ensures workers { self.new.journal.workers ≡ self.old.journal.workers }
+    {
+        if self.rounds_in_turn(worker, stops, 1) > 0 {
+            return true;
+        }
+        self.turn_of_first(worker, stops)
+    }
+
+    /// Whether the journal has room for so many rows more.
+    fn has_room(&self, rows: u32) -> bool
+        ensures { result ≡ nat_le ((ideal self.now).rows + rows) self.now.journal.limits.steps }
+    {
+        let most = self.journal().limits().steps;
+        u64::from(self.rows()) + u64::from(rows) <= u64::from(most)
+    }
+
+    /// Whether the world runs, and the journal has room for so many turns of the collector.
+    fn may_sweep(&self, gc: u32) -> bool
+        ensures runs { result ≡ true → is_running (status_of self.now) ≡ true }
+        ensures room { result ≡ true → (ideal self.now).rows + gc ≤ self.now.journal.limits.steps }
+    {
+        match self.status() {
+            Status::Running => self.has_room(gc),
+            Status::Finished | Status::Stuck | Status::Faulted => false,
+        }
+    }
+
+    /// Rounds at a pace, one after another and so many at most, whose thread's turn is made as `turn_past` makes it. Of
+    /// the last one, maybe, the thread's turn alone.
+    fn rounds_one_by_one(&mut self, pace: Pace<'_>, most: u32) -> Rounds
+        requires { pace.worker < self.old.journal.workers }
+        ensures rounds { LeadsPast pace.entry.stops self.old pace.entry.worker pace.entry.gc result self.new }
+        ensures most { result.made ≤ most }
+        ensures begun { result.begun ≡ true → result.made < most }
+    {
+        for made in 0..most {
+            if !self.turn_past(pace.worker, pace.stops) {
+                return Rounds { made, begun: false };
+            }
+            if !self.may_sweep(pace.gc) {
+                return Rounds { made, begun: true };
+            }
+            self.collect(pace.worker, pace.gc);
+        }
+        Rounds {
+            made: most,
+            begun: false,
+        }
+    }
+
+    /// How many rounds may be made one by one before many in one call are tried again: one where one thread was ever
+    /// started, else so many.
+    fn most_one_by_one(&self, most: u32) -> u32
+        ensures { result ≤ most }
+    {
+        if self.thread_count() > 1 {
+            most
+        } else {
+            most.min(1)
+        }
+    }
+
+    /// Rounds by worker 0, so many at most, of which none begins with a thread at a stop: whole ones, in which each
+    /// turn is done, and of one more, maybe, the thread's turn alone. Where no more were made, there may be one all the
+    /// same: another way to make it is to be asked. It takes no memory.
+    // Many in one call where that can be, and else one by one.
+    pub fn rounds_past(&mut self, stops: Stops<'_>, gc: u32, most: u32) -> Rounds
+        ensures rounds { LeadsPast stops.entry self.old 0 gc result self.new }
+        ensures most { result.made ≤ most }
+        ensures begun { result.begun ≡ true → result.made < most }
+    {
+        let worker = self.first_worker();
+        let pace = Pace { worker, gc, stops };
+        let rounds = self.rounds_at_pace(pace, most);
+        if rounds.begun || rounds.made > 0 {
+            return rounds;
+        }
+        let few = self.most_one_by_one(most);
+        self.rounds_one_by_one(pace, few)
     }
 
     /// So many rounds by a worker, and what they came to.

@@ -12,4 +12,6 @@ mod heap_tests;
 #[cfg(test)]
 mod mains;
 #[cfg(test)]
+mod refused_tests;
+#[cfg(test)]
 mod scheduler_tests;

@@ -1,4 +1,4 @@
-use Rattle.exploring.proofs.KeyLemmas.{keys_tell}
+use Rattle.exploring.proofs.StateLemmas.{keys_tell}
 use Rattle.exploring.proofs.keys_tell.Goals as goal
 
 pub returns : goal.returns

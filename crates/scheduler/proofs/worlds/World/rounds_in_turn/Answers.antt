@@ -4,6 +4,7 @@ use Rattle.model.specs.Observers.{ideal}
 use Rattle.instructions.proofs.IdleLemmas.{none-idle}
 use Rattle.scheduler.specs.Rounds.{LeadsOn}
 use Rattle.scheduler.proofs.Bursts.{leads-more, leads-none, workers-picked}
+use Rattle.scheduler.proofs.PastStops.{first-past}
 use Rattle.scheduler.proofs.worlds.World.rounds_in_turn.Goals as goal
 
 pub loop-made-preserved : goal.loop-made-preserved
@@ -17,6 +18,8 @@ loop-made-preserved c =
       rounds = subst (λ n. LeadsOn c.args.self.now w 0 n c.turn_plainly.new.self) more
           (leads-more c.args.self.now at.self c.turn_plainly.new.self w at.made at.invariant.rounds made
           (c.turn_plainly.ensures.done c.if-not-turn_plainly.false));
+      past = λ _. first-past c.args.stops c.args.self.now at.self w at.made at.invariant.rounds at.invariant.past
+          (c.turn_plainly.ensures.past c.if-not-turn_plainly.false);
       idle = c.turn_plainly.ensures.idle c.if-not-turn_plainly.false;
     }
 
@@ -26,5 +29,6 @@ loop-made-init c =
     record {
       workers = refl;
       rounds = leads-none v c.args.worker 0;
+      past = λ some. absurd (omega (arith, some));
       idle = none-idle v.program (ideal v) c.none-idle.result c.none-idle.ensures;
     }

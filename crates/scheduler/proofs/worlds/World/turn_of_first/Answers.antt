@@ -1,6 +1,5 @@
-use Rattle.std.proofs.Common.{◌∙◌}
 use Rattle.scheduler.proofs.ErrorCells.{errors_stand}
-use Rattle.scheduler.proofs.FirstTurns.{first_answer, first_fits, first_noted, first_picked}
+use Rattle.scheduler.proofs.FirstTurns.{first_done, first_fits, first_noted, first_past, first_picked}
 use Rattle.scheduler.proofs.worlds.World.turn_of_first.Goals as goal
 
 pub turn_first-requires : goal.turn_first-requires
@@ -23,12 +22,22 @@ invariant_of-self c =
     c.turn_first.new.self c.in-Some.ensures.made)
 
 pub returns-in-Some-clause-made : goal.returns-in-Some-clause-made
-returns-in-Some-clause-made c =
+returns-in-Some-clause-made c = λ _.
     let a = c.self.inside in
-    let answer = rw c.note.ensures at c.reported.ensures in (
-      rw (c.note.ensures, ← c.self.view_is)
-          (first_picked a.state a.journal a.next c.self.invariant c.args.worker c.in-Some.thread c.in-Some.outcome
-          c.turn_first.new.self c.in-Some.ensures.made),
-      answer ∙ rw (← c.self.view_is) (first_answer a.state a.journal a.next c.self.invariant c.args.worker
-          c.in-Some.thread c.in-Some.outcome c.turn_first.new.self c.in-Some.ensures.made),
-    )
+    rw (c.note.ensures, ← c.self.view_is)
+    (first_picked a.state a.journal a.next c.self.invariant c.args.worker c.in-Some.thread c.in-Some.outcome
+    c.turn_first.new.self c.in-Some.ensures.made)
+
+pub returns-in-Some-clause-done : goal.returns-in-Some-clause-done
+returns-in-Some-clause-done c = λ _.
+    let a = c.self.inside in
+    rw (← c.self.view_is)
+    (first_done a.state a.journal a.next c.self.invariant c.args.worker c.in-Some.thread c.in-Some.outcome
+    c.turn_first.new.self c.in-Some.ensures.made c.in-Some.ensures.faultless)
+
+pub returns-in-Some-clause-past : goal.returns-in-Some-clause-past
+returns-in-Some-clause-past c = λ _.
+    let a = c.self.inside in
+    rw (← c.self.view_is)
+    (first_past a.state a.journal a.next c.self.invariant c.args.worker c.in-Some.thread c.in-Some.outcome
+    c.turn_first.new.self c.in-Some.ensures.made c.args.stops c.in-Some.ensures.past)

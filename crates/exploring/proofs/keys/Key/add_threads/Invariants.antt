@@ -1,9 +1,0 @@
-use Rattle.std.proofs.Common.{◌≡◌, ◌++◌, length, drop}
-use Rattle.std.specs.List.{flat_map}
-use Rattle.exploring.specs.Keys.{number, thread}
-use Rattle.exploring.proofs.keys.Key.add_threads.Given as goal
-
--- the bytes of those that are left complete the row
-abbrev pub invariant-loop-one : goal.invariant-loop-one
-invariant-loop-one l = l.self ++ flat_map (thread l.names) (drop l.one-index l.added)
-    ≡ (l.fn.self ++ number (length l.added)) ++ flat_map (thread l.names) l.added

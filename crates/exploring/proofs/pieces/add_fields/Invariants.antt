@@ -1,0 +1,9 @@
+use Rattle.std.proofs.Common.{◌≡◌, map, drop}
+use Rattle.exploring.specs.Chains.{chained}
+use Rattle.exploring.specs.Keys.{field}
+use Rattle.exploring.proofs.pieces.add_fields.Given as goal
+
+-- those that are left complete the chain
+abbrev pub invariant-loop-one : goal.invariant-loop-one
+invariant-loop-one l = chained l.chains (map (field l.names) (drop l.one-index l.added))
+    ≡ chained l.fn.chains (map (field l.names) l.added)
