@@ -156,7 +156,8 @@ def commands(jvm, room):
     yield Command([jvm, "debug", "--small", "8", *texts], typed=SESSION, last=600)
     yield Command([jvm, "explore", "--witnesses", room, empty], [f"{room}/1.journal"], last=400)
     yield Command([jvm, "explore", "--no-room", f"{EXAMPLES}/D.j"], last=LAST)
-    yield Command([jvm, "explore", "--from", run, "--split", "2", "--witnesses", room, *texts], [f"{room}/1.journal"], last=600)
+    # (the last request is that for the line that tells how many parts were written)
+    yield Command([jvm, "explore", "--from", run, "--split", "2", "--witnesses", room, *texts], last=600)
     yield from failing_commands(jvm, room, empty, small, kept, run)
 
 
