@@ -79,10 +79,13 @@ class Browser:
         """Opens the window."""
         options = {"binary": browser, "args": ARGUMENTS}
         always = {"browserName": "chrome", "goog:chromeOptions": options, "goog:loggingPrefs": {"browser": "ALL"}, "timeouts": {"script": 120000}}
-        try:
-            made = self.ask("POST", "/session", {"capabilities": {"alwaysMatch": always}})
-        except (RuntimeError, OSError) as error:
-            raise NoBrowser(f"chromium doesn't start: {error}") from None
+        for left in (2, 1, 0):  # on a busy machine the driver gives up too soon
+            try:
+                made = self.ask("POST", "/session", {"capabilities": {"alwaysMatch": always}})
+                break
+            except (RuntimeError, OSError) as error:
+                if not left:
+                    raise NoBrowser(f"chromium doesn't start: {error}") from None
         self.session = f"/session/{made['sessionId']}"
         self.version = made["capabilities"]["browserVersion"]
 

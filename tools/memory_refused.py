@@ -11,21 +11,13 @@ The requests of a whole run of a command are counted, and then the command is ru
   the room that it expects, and where that is refused for as much as it needs; `replay` makes the rows one by one where it has no
   memory to make them in rounds.
 
-An exploration that has begun is cut off for memory instead, with status 4, having reported outcomes that it reports else.
-
-Where threads are started, the request of each start ends with `jvm: no thread`; and so does each start that the system refuses. Of
-commands that begin alike only the first is tried from its first request on, but with --all. Those that fail have to be refused in the
-same way.
-
-`launch`, `Board::new` and `Hall::new` are tried alone in the same way, each by a test in crates/world_tests, and end with their own error
-of memory. The gate has built that program; else `rt test` does, in its folder.
-
-It wants a C compiler, `cc`. The last line is 'N passed, M failed'. For run_examples.py, too, which gets a result for each command.
+An exploration that has begun is cut off for memory instead, with status 4, having reported outcomes that it reports else. Where threads
+are started, the request of each start ends with `jvm: no thread`; and so does each start that the system refuses. Of commands that begin
+alike only the first is tried from its first request on, but with --all. Those that fail have to be refused in the same way. It wants a C
+compiler, `cc`. The last line is 'N passed, M failed'. For run_examples.py, too, which gets a result for each command.
 """
 import argparse
-import itertools
 import os
-import re
 import subprocess
 import sys
 import tempfile
@@ -34,18 +26,9 @@ from typing import NamedTuple
 ROOT = os.path.join(os.path.dirname(os.path.abspath(__file__)), "..")
 EXAMPLES = os.path.join(ROOT, "examples")
 BUILT = os.path.join(ROOT, "crates", "jvm", "out", "jvm")
-TESTS = os.path.join(ROOT, "crates", "world_tests", "out", "world_tests_tests")
 LACKS, NO_THREAD = (6, b"jvm: memory\n"), (6, b"jvm: no thread\n")
 # how many of the last requests are tried of a command that begins as another one does: those after its program was loaded
 LAST = 160
-
-# the tests of calls alone, and how each call says that it had no memory
-ALONE = {
-    "a_launch_alone": r"World\(Memory\)|Load\(Memory\(AllocError\)\)|Source \{ place: [01], error: "
-    r"(Memory|Assembly\(Memory\)|Class\(Memory\)|Text\(TextError \{ line: \d+, fault: Memory \}\)) \}",
-    "a_board_alone": "Memory",
-    "a_hall_alone": "Memory",
-}
 
 # a session of the debugger with answers that take memory, and a breakpoint
 SESSION = b"stack 0\nbreak Square.area()I 0\nrun 5\nobject 3\nheap\nstack 0\nclass Square\nx\nstep 0\ngc\ndelete 0\nquit\n"
@@ -261,38 +244,9 @@ def unstarted(command, library, whole):
     return None if ending(command, library, UNSTARTED=command.carriers + 1) == whole else "more threads are started than workers need"
 
 
-def alone(tests, name, library, number, **given):
-    """What a test prints and says with some requests refused, and whether it passes."""
-    how = {"stdout": subprocess.PIPE, "stderr": subprocess.PIPE, "timeout": 60, "check": False}
-    set_ = {**os.environ, "LD_PRELOAD": library, "REFUSED": str(number), **given}
-    done = subprocess.run([tests, f"refused_tests::{name}"], env=set_, **how)
-    return done.stdout.decode(), done.stderr.decode(), done.returncode == 0
-
-
-def refused_alone(tests, name, library):
-    """How many requests a call makes alone, and what is wrong with its ends where each is refused in turn, or nothing."""
-    if not os.path.exists(tests):
-        return 0, "its tests aren't built: rt test in crates/world_tests"
-    lacks, made = re.compile(f"error: ({ALONE[name]})\n"), 0
-    for number in itertools.count(1):
-        printed, said, passes = alone(tests, name, library, number, ALL="1")
-        if passes:
-            return made, None if made and printed.startswith("begun\n") else f"{made} requests are the call's"
-        if not printed.startswith("begun\n"):
-            continue
-        made += 1
-        if not lacks.match(said):
-            return made, f"with request {number} and all after it refused: {said}"
-        printed, said, passes = alone(tests, name, library, number)
-        if not passes and not lacks.match(said):
-            return made, f"with request {number} refused: {said}"
-
-
 def tried_refusals(jvm, room, whole=False):
     """What was tried of refused requests, each with what is wrong, or nothing."""
     library, why = refuser(room)
-    for name in ALONE:
-        yield f"each request for memory refused: {name}", why or refused_alone(TESTS, name, library)[1]
     for command in commands(jvm, room):
         command = command._replace(last=None) if whole else command
         name = " ".join(word.removeprefix(f"{room}/").removeprefix(f"{EXAMPLES}/") for word in command.words[1:])

@@ -28,7 +28,7 @@ import time
 from browser import Browser, NoBrowser, installed
 
 ROOT = os.path.dirname(os.path.dirname(os.path.abspath(__file__)))
-LIMIT = 60
+LIMIT = 120
 # what the page shows, as it stands in its elements
 SHOWN = """
 const lines = (css) => [...document.querySelectorAll(css)].map((it) => it.textContent);
@@ -447,9 +447,9 @@ def tried_long_runs(page):
     page.browser.run("$('many').value = 500000")
     page.click("#rounds")
     same(page.settled()["total"], 1000000, "a run of a million rows")
-    took = []
-    for row in (1, 999999, 500000, 750001, 250000):
-        took.append(page.later("const began = performance.now(); go(arguments[0]).then(() => done(performance.now() - began))", row))
+    # (the best of three, since a machine may be busy)
+    seek = "const began = performance.now(); go(arguments[0]).then(() => done(performance.now() - began))"
+    took = [min(page.later(seek, row) for _ in range(3)) for row in (1, 999999, 500000, 750001, 250000)]
     print(f"page: seeks in a run of a million rows: {', '.join(f'{it:.0f} ms' for it in took)}", flush=True)
     holds(max(took) < page.seek, f"a seek took {max(took):.0f} ms")
     page.browser.run("window.waited = []; page.machine.ask(inputOf(setting(), Array(400).fill('rounds 40000 1')), (n) => waited.push(n)).catch((it) => waited.push(it.message))")
@@ -553,6 +553,8 @@ def tried_lessons(page):
             for _ in range(15):
                 shown = page.key("0")
             same(page.click("#run")["state"]["status"], "finished", "the other way")
+    page.example("countdown")
+    same(page.browser.run("return document.querySelectorAll('.look').length"), 0, "what a lesson points at, once another program is there")
     page.browser.click("#show-lessons")
 
 

@@ -399,6 +399,7 @@ async function take(sources, { shape = null, limits = null, moves = [], at = nul
   page.shown = 0;
   page.breakpoints.clear();
   page.view = null;
+  document.querySelector(".look")?.classList.remove("look");
   if (shape) for (const size of ["small", "medium", "large"]) $(size).value = shape[size];
   if (limits) {
     $("steps").value = limits.steps;
@@ -637,7 +638,6 @@ async function openLesson(lesson) {
   const sources = lesson.sources.map((it) => (it.example ? DATA.examples[it.example][0] : { name: it.name, text: it.text }));
   $("examples").value = "";
   await take(sources.map((it) => ({ ...it })), { shape: lesson.shape, limits: LIMITS, moves: lesson.moves });
-  document.querySelector(".look")?.classList.remove("look");
   $(lesson.look).classList.add("look");
 }
 

@@ -123,13 +123,23 @@ fn program<R: rt::Files + AllocGlobal>(
     }
 }
 
-/// Runs a program in all orders.
-pub fn all_orders<R: rt::Files + AllocGlobal>(
-    rt: &R,
+/// Runs all lists of a race, on what was made for them.
+fn run_all(
     alloc: Global,
     race: &Race,
-) -> Result<Counts, RaceError> {
-    let program = program(rt, alloc, race.texts)?;
+    sides: &mut Sides<'_>,
+    counts: &mut Counts,
+) -> Result<(), RaceError> {
+    for sweeps in race.fewest..=race.most {
+        let first = first_list(alloc, race.opening, sweeps)?;
+        runs_from(sides, first, counts)?;
+    }
+    Ok(())
+}
+
+/// Runs all lists of a race on its program.
+fn counted(alloc: Global, race: &Race, program: &Program) -> Result<Counts, RaceError> {
+    let mut sides = Sides::new(alloc, program, race.cells)?;
     let mut counts = Counts {
         runs: 0,
         turns: 0,
@@ -137,10 +147,16 @@ pub fn all_orders<R: rt::Files + AllocGlobal>(
         objects: 0,
         comparisons: 0,
     };
-    let mut sides = Sides::new(alloc, &program, race.cells)?;
-    for sweeps in race.fewest..=race.most {
-        let first = first_list(alloc, race.opening, sweeps)?;
-        runs_from(&mut sides, first, &mut counts)?;
-    }
+    run_all(alloc, race, &mut sides, &mut counts)?;
     Ok(counts)
+}
+
+/// Runs a program in all orders.
+pub fn all_orders<R: rt::Files + AllocGlobal>(
+    rt: &R,
+    alloc: Global,
+    race: &Race,
+) -> Result<Counts, RaceError> {
+    let program = program(rt, alloc, race.texts)?;
+    counted(alloc, race, &program)
 }

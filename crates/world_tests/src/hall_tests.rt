@@ -191,7 +191,7 @@ fn days_go_so(rt: HostRuntime) -> Result<(), Fail> {
 }
 
 /// A world that has made no turn, whose main has so many instructions before its return.
-pub fn world_of_nops(alloc: Global, count: usize, steps: u32) -> Result<World, Fail>
+fn world_of_nops(alloc: Global, count: usize, steps: u32) -> Result<World, Fail>
     ensures { IfOk result (λ world. world.journal.rows ≡ []) }
 {
     let limits = Limits { steps, output: 0 };
@@ -199,7 +199,7 @@ pub fn world_of_nops(alloc: Global, count: usize, steps: u32) -> Result<World, F
 }
 
 /// How many shares a hall for these roles has.
-pub fn shares_for<L: Ledger>(
+fn shares_for<L: Ledger>(
     alloc: Global,
     blank: Blank,
     world: World,

@@ -12,6 +12,4 @@ mod heap_tests;
 #[cfg(test)]
 mod mains;
 #[cfg(test)]
-mod refused_tests;
-#[cfg(test)]
 mod scheduler_tests;

@@ -1,4 +1,4 @@
-use Rattle.std.proofs.Common.{◌≡◌, ℕ, arith, subst, sym}
+use Rattle.std.proofs.Common.{◌≡◌, ℕ, arith, subst}
 use Rattle.model.specs.Machines.{Recorded}
 use Rattle.scheduler.specs.Rounds.{LeadsPast}
 use Rattle.scheduler.proofs.PastStops.{led-nowhere}
