@@ -4,8 +4,9 @@
     tools/hold_back.py PID
 
 For .ci/run. PID is `rt ci`, which starts as many checks as it's told, whatever they need. Mostly four fit; those of the crates at
-the top don't. Each two seconds this looks at the free memory. Where it's short, the youngest check is stopped, but for the last
-two; it goes on once there is enough again, or fewer than two others are left. It says so on standard output, and ends with PID.
+the top don't. Each two seconds this looks at the free memory. Where it's short, a check is stopped, but for the last two: the
+youngest of those whose crate no other waits for, or else of all. It goes on once there is enough again, or fewer than two others
+are left. It says so on standard output, and ends with PID.
 """
 import os
 import signal
@@ -17,6 +18,13 @@ SHORT, ENOUGH = 2_500_000, 6_500_000
 # so many are never stopped
 LEAST = 2
 PAUSE = 2
+CRATES = os.path.join(os.path.dirname(os.path.dirname(os.path.abspath(__file__))), "crates.txt")
+
+
+def used():
+    """The crates and libraries that a crate uses."""
+    with open(CRATES, encoding="utf-8") as file:
+        return {name for line in file for name in line.partition("#")[0].partition(":")[2].split()}
 
 
 def free():
@@ -64,30 +72,31 @@ def tell(check, sign):
             pass  # (it has ended)
 
 
-def choose(begun, held, room):
-    """Which check is to stop, and which is to go on; nothing for either where none is."""
-    goes = [it for it in begun if it not in held]
-    if room < SHORT and len(goes) > LEAST:
-        return goes[-1], None
-    if held and (room > ENOUGH or len(goes) < LEAST):
-        return None, held[0]
-    return None, None
-
-
 def place_of(check):
-    """The crate of a check."""
+    """The crate of a check, or the folder of a wrong body."""
     try:
         return os.path.basename(os.readlink(f"/proc/{check}/cwd"))
     except OSError:
         return "a crate"
 
 
+def choose(begun, held, room, needed):
+    """Which check is to stop, and which is to go on; nothing for either where none is. needed: crates that others wait for."""
+    goes = [it for it in begun if it not in held]
+    if room < SHORT and len(goes) > LEAST:
+        return ([it for it in goes if place_of(it) not in needed] or goes)[-1], None
+    if held and (room > ENOUGH or len(goes) < LEAST):
+        return None, held[0]
+    return None, None
+
+
 def watch(of, held):
     """Looks until a process has ended; held: the checks that are stopped."""
+    needed = used()
     while of in (found := processes()):
         begun = checks(of, found)
         held[:] = [it for it in held if it in begun]
-        stops, goes = choose(begun, held, free())
+        stops, goes = choose(begun, held, free(), needed)
         if stops:
             held.append(stops)
             tell(begun[stops], signal.SIGSTOP)
