@@ -1,5 +1,5 @@
 #!/usr/bin/env python3
-"""Writes docs/CODES.md from the meanings in crates/commands/src/explaining.rt.
+"""Writes docs/CODES.md from the meanings in crates/command_line/src/explaining.rt.
 
     tools/codes.py            writes the page
     tools/codes.py --check    tells whether the page is what would be written, by its status
@@ -10,7 +10,7 @@ import re
 import sys
 
 ROOT = os.path.join(os.path.dirname(os.path.abspath(__file__)), "..")
-SOURCE = os.path.join(ROOT, "crates/commands/src/explaining.rt")
+SOURCE = os.path.join(ROOT, "crates/command_line/src/explaining.rt")
 PAGE = os.path.join(ROOT, "docs/CODES.md")
 FAMILIES = [
     ("text", "J", "A text is refused"),
@@ -43,7 +43,7 @@ def page():
         "# Codes",
         "",
         "What the codes and exit statuses mean that `jvm` tells. `jvm explain CODE` says the same; this page is written from",
-        "crates/commands/src/explaining.rt by tools/codes.py.",
+        "crates/command_line/src/explaining.rt by tools/codes.py.",
     ]
     for name, letter, title in FAMILIES:
         lines += ["", f"## {title}", ""]

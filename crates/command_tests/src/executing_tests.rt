@@ -1,9 +1,9 @@
 //! Command lines, each with its status, what it prints and what it says on standard error.
 
 use crate::memory_files::{FullStream, MemoryFiles};
-use commands::endings::Exit;
+use command_line::endings::Exit;
+use command_line::options::{Command, options};
 use commands::executing::{execute, written};
-use commands::options::{Command, options};
 use hall::HallError;
 use model::watching::Unwatched;
 use std::alloc::Global;

@@ -1,6 +1,6 @@
 //! Files and streams that stand in memory.
 
-use commands::files::{Files, ReadError, WriteError};
+use program_files::files::{Files, ReadError, WriteError};
 use std::alloc::{AllocError, Global};
 use std::io;
 use std::io::Write;

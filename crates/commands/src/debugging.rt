@@ -1,12 +1,12 @@
 //! `jvm debug`: a session over an input and an output.
 
-use crate::endings::{Ending, Exit};
-use crate::executing::launched;
-use crate::files::Files;
-use crate::options::DebugOptions;
+use command_line::endings::{Ending, Exit};
+use command_line::options::DebugOptions;
 use debug_texts::counted::Counted;
 use debugger::debug;
 use debugger::errors::DebugError;
+use program_files::files::Files;
+use program_files::launching::launched;
 use std::alloc::Global;
 use std::io::{BufReader, Read, Write};
 

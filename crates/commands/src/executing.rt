@@ -1,209 +1,25 @@
 //! What the program does at a command.
-ghost use Rattle.std.specs.Prelude.{◌≡◌, [], IfOk};
 
 use crate::carriers::carried;
 use crate::debugging::debugged;
-use crate::endings::{Ending, Exit};
-use crate::explaining::{all_codes, explained};
-use crate::files::{Files, ReadError};
-use crate::options::{AssembleOptions, Command, RunOptions, WorldOptions};
-use crate::schedules::explored;
-use crate::stored_runs::{replay, upgrade, write_stored};
-use acceptance::LoadError;
-use assembler::AsmError;
-use classfile::ClassError;
+use command_line::endings::{Ending, Exit};
+use command_line::explaining::{all_codes, explained};
+use command_line::options::{AssembleOptions, Command, RunOptions};
 use comparison::checking::first_difference_watched;
+use explore_command::commanding::explored;
 use hall::HallError;
-use jasmin::Fault as TextFault;
-use launcher::launching::{LaunchError, launch};
 use launcher::sources::{SourceError, assembled};
-use model::journals::{HeapShape, Limits};
-use model::turns::Status;
-use model::views::ThreadState;
 use model::watching::Watch;
-use scheduler::worlds::{World, WorldError};
-use std::alloc::{AllocError, Global};
+use program_files::files::Files;
+use program_files::launching::{launched, source_refused};
+use program_files::run_ends::{ended, write_output};
+use program_files::stored_runs::{replay, upgrade, write_stored};
+use program_files::whole_files::{read_one, write_one, write_text};
+use scheduler::worlds::World;
+use std::alloc::Global;
 use std::io::{self, Read, Write};
 use std::sync::Wait;
 use std::thread::Threads;
-
-/// The heap of some options.
-pub fn shape_of(options: WorldOptions) -> HeapShape
-    ensures { result ≡ record { small = options.small; medium = options.medium; large = options.large } }
-{
-    HeapShape {
-        small: options.small,
-        medium: options.medium,
-        large: options.large,
-    }
-}
-
-/// The limits of some options.
-pub fn limits_of(options: WorldOptions) -> Limits
-    ensures { result ≡ record { steps = options.steps; output = options.output } }
-{
-    Limits {
-        steps: options.steps,
-        output: options.output,
-    }
-}
-
-/// A file's bytes.
-pub fn read_one<F: Files>(alloc: Global, files: &mut F, name: &String) -> Result<Vec<u8>, Ending> {
-    match files.read(alloc, name.as_str()) {
-        Ok(bytes) => Ok(bytes),
-        Err(ReadError::Memory) => Err(Ending::memory()),
-        Err(ReadError::Failed) => Err(Ending::reported(
-            Exit::System,
-            format!(in alloc; "cannot read {name}"),
-        )),
-    }
-}
-
-/// The files' bytes, in order.
-pub fn read_all<F: Files>(
-    alloc: Global,
-    files: &mut F,
-    names: &[String],
-) -> Result<Vec<Vec<u8>>, Ending> {
-    let mut sources = Vec::new(alloc);
-    for name in names {
-        match sources.push(read_one(alloc, files, name)?) {
-            Ok(()) => {}
-            Err(_) => return Err(Ending::memory()),
-        }
-    }
-    Ok(sources)
-}
-
-/// Writes a file with these bytes.
-pub fn write_one<F: Files>(
-    alloc: Global,
-    files: &mut F,
-    name: &String,
-    bytes: &[u8],
-) -> Result<(), Ending> {
-    match files.write(name.as_str(), bytes) {
-        Ok(()) => Ok(()),
-        Err(_) => Err(Ending::reported(Exit::System, format!(in alloc; "cannot write {name}"))),
-    }
-}
-
-/// The end of a command whose source of this name was refused.
-fn source_refused(alloc: Global, name: &String, error: &SourceError) -> Ending {
-    let lacks_memory = match error {
-        SourceError::Text(error) => error.fault == TextFault::Memory,
-        SourceError::Assembly(error) => matches!(error, AsmError::Memory),
-        SourceError::Class(error) => matches!(error, ClassError::Memory),
-        SourceError::Memory => true,
-    };
-    if lacks_memory {
-        Ending::memory()
-    } else {
-        Ending::reported(Exit::Refused, format!(in alloc; "{name}: {error}"))
-    }
-}
-
-/// The end of a command that has no world.
-pub fn refused(alloc: Global, names: &[String], error: &LaunchError) -> Ending {
-    match error {
-        LaunchError::Source { place, error } => match names.get(*place) {
-            Some(name) => source_refused(alloc, name, error),
-            None => Ending::memory(),
-        },
-        LaunchError::Load(LoadError::Memory(_)) => Ending::memory(),
-        LaunchError::Load(error) => Ending::reported(
-            Exit::Refused,
-            format!(in alloc; "load: {error}"),
-        ),
-        LaunchError::World(WorldError::Memory) => Ending::memory(),
-        LaunchError::World(error) => Ending::reported(
-            Exit::Refused,
-            format!(in alloc; "world: {error}"),
-        ),
-    }
-}
-
-/// A line for each thread that was ended by an exception, by number, each but the first after `jvm: `; empty where
-/// there is none. `AllocError` where memory runs out.
-fn exceptions_reported(alloc: Global, world: &World) -> Result<String, AllocError> {
-    let mut lines = String::new(alloc);
-    for thread in 0..=u8::MAX {
-        let Some(view) = world.thread(thread)? else {
-            break;
-        };
-        if let ThreadState::Ended(Some(class)) = &view.state {
-            if !lines.is_empty() {
-                lines.push_str("\njvm: ")?;
-            }
-            let line = format!(in alloc; "thread {thread} ended by {class}")?;
-            lines.push_str(line.as_str())?;
-        }
-    }
-    Ok(lines)
-}
-
-/// How a world ends whose threads have all ended.
-fn finished(alloc: Global, world: &World) -> Ending {
-    match exceptions_reported(alloc, world) {
-        Ok(lines) if lines.is_empty() => Ending::good(),
-        lines => Ending::reported(Exit::Exception, lines),
-    }
-}
-
-/// How a world that was run ends the command.
-pub fn ended(alloc: Global, world: &World) -> Ending {
-    match (world.fault(), world.status()) {
-        (Some((fault, thread)), _) => {
-            Ending::reported(
-                Exit::Fault,
-                format!(in alloc; "fault {fault} in thread {thread}"),
-            )
-        }
-        (None, Status::Finished) => finished(alloc, world),
-        (None, Status::Stuck) => Ending::reported(Exit::Stuck, format!(in alloc; "stuck")),
-        (None, _) => {
-            if world.output_full() {
-                Ending::reported(Exit::Limit, format!(in alloc; "output limit"))
-            } else {
-                Ending::reported(Exit::Limit, format!(in alloc; "step limit"))
-            }
-        }
-    }
-}
-
-/// Launches the program of these files.
-pub fn launched<F: Files>(
-    alloc: Global,
-    options: WorldOptions,
-    names: &[String],
-    files: &mut F,
-) -> Result<World, Ending>
-    ensures { IfOk result (λ world. world.journal.rows ≡ []) }
-{
-    let sources = match read_all(alloc, files, names) {
-        Ok(sources) => sources,
-        Err(ending) => return Err(ending),
-    };
-    match launch(alloc, sources, shape_of(options), limits_of(options), &[]) {
-        Ok(world) => Ok(world),
-        Err(error) => Err(refused(alloc, names, &error)),
-    }
-}
-
-/// Writes these bytes to standard output.
-pub fn write_text<W: Write>(alloc: Global, bytes: &[u8], output: &mut W) -> Result<Ending, Ending> {
-    match output.write_all(bytes) {
-        Ok(()) => Ok(Ending::good()),
-        Err(_) => Err(Ending::reported(Exit::System, format!(in alloc; "cannot write -"))),
-    }
-}
-
-/// Writes what a world printed.
-pub fn write_output<W: Write>(alloc: Global, world: &World, output: &mut W) -> Result<(), Ending> {
-    write_text(alloc, world.output(), output)?;
-    Ok(())
-}
 
 /// The end of a run that has no world.
 fn not_carried(alloc: Global, error: HallError) -> Ending {
@@ -227,8 +43,28 @@ fn checked<P: Watch>(alloc: Global, world: &World, watch: &mut P) -> Ending {
     }
 }
 
-/// Writes the output of a run and then its journal, where one is wanted, and compares it with the ideal run, where that
+/// Writes what a world printed and then its journal, where one is wanted, and compares it with the ideal run, where that
 /// is wanted.
+fn world_written<F: Files, W: Write, P: Watch>(
+    alloc: Global,
+    options: &RunOptions,
+    world: &World,
+    files: &mut F,
+    output: &mut W,
+    watch: &mut P,
+) -> Result<Ending, Ending> {
+    write_output(alloc, world, output)?;
+    if let Some(name) = &options.journal {
+        write_stored(alloc, files, name, world.journal())?;
+    }
+    if options.check {
+        return Ok(checked(alloc, world, watch));
+    }
+    Ok(ended(alloc, world))
+}
+
+/// What is written at the end of a run, and how it ends the command: its output and then its journal, where one is wanted;
+/// it is compared with the ideal run, where that is wanted.
 pub fn written<F: Files, W: Write, P: Watch>(
     alloc: Global,
     options: &RunOptions,
@@ -237,18 +73,10 @@ pub fn written<F: Files, W: Write, P: Watch>(
     output: &mut W,
     watch: &mut P,
 ) -> Result<Ending, Ending> {
-    let world = match carried {
-        Ok(world) => world,
-        Err(error) => return Err(not_carried(alloc, error)),
-    };
-    write_output(alloc, &world, output)?;
-    if let Some(name) = &options.journal {
-        write_stored(alloc, files, name, world.journal())?;
+    match carried {
+        Ok(world) => world_written(alloc, options, &world, files, output, watch),
+        Err(error) => Err(not_carried(alloc, error)),
     }
-    if options.check {
-        return Ok(checked(alloc, &world, watch));
-    }
-    Ok(ended(alloc, &world))
 }
 
 /// Runs a program.

@@ -1,12 +1,6 @@
-//! What `jvm` does: its command line, its commands over files and streams, how each ends, and what codes mean.
+//! What `jvm` does at a command: commands over files and streams, and who carries a run's turns.
 #![tactic(auto)]
 
 pub mod carriers;
 mod debugging;
-pub mod endings;
 pub mod executing;
-pub mod explaining;
-pub mod files;
-pub mod options;
-mod schedules;
-mod stored_runs;

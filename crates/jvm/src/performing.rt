@@ -2,10 +2,10 @@
 
 use crate::prompting::Prompted;
 use crate::telling::Teller;
-use commands::endings::Exit;
+use command_line::endings::Exit;
+use command_line::options::{Command, LineError, options};
 use commands::executing::execute;
-use commands::files::SystemFiles;
-use commands::options::{Command, LineError, options};
+use program_files::files::SystemFiles;
 use std::alloc::{AllocError, Global};
 use std::io::{ErrorKind, IsTerminal, Write};
 use std::sync::Wait;

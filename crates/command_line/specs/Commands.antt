@@ -1,7 +1,7 @@
 use Rattle.std.specs.Prelude.{◌<◌, ◌≤◌, ℕ, IfSome, length}
-use Rattle.commands.specs.declared.options.Command.{Command}
-use Rattle.commands.specs.declared.options.Command.TheVariants.{Run, Debug, Explore, Assemble, Disassemble, Replay, Upgrade}
-use Rattle.commands.specs.declared.options.Command.TheVariants.{Explain}
+use Rattle.command_line.specs.declared.options.Command.{Command}
+use Rattle.command_line.specs.declared.options.Command.TheVariants.{Run, Debug, Explore, Assemble, Disassemble, Replay, Upgrade}
+use Rattle.command_line.specs.declared.options.Command.TheVariants.{Explain}
 use Rattle.model.specs.Limits.{LimitsFit}
 
 -- a command has the file names that it needs

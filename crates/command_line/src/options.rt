@@ -1,8 +1,8 @@
 //! The command line.
 ghost use Rattle.std.specs.Prelude.{◌≡◌, ◌<◌, ◌≤◌, IfOk, IfSome, IsTrue, length, unwrap_or};
 ghost use Rattle.clap.specs.Words.{found_of};
-ghost use Rattle.commands.specs.Commands.{HasFiles, InRange, IsPartCount};
-ghost use Rattle.commands.specs.Numbers.{HasBounds, HasLimits, HasNumbers, IsNumber};
+ghost use Rattle.command_line.specs.Commands.{HasFiles, InRange, IsPartCount};
+ghost use Rattle.command_line.specs.Numbers.{HasBounds, HasLimits, HasNumbers, IsNumber};
 ghost use Rattle.model.specs.Limits.{LimitsFit};
 
 use clap::error::ErrorKind;

@@ -1,9 +1,11 @@
 //! Runs that are stored as journals, replayed from them, and journals that are upgraded.
 
-use crate::endings::{Ending, Exit};
-use crate::executing::{ended, read_all, read_one, refused, write_one, write_output};
 use crate::files::Files;
-use crate::options::{ReplayOptions, UpgradeOptions};
+use crate::launching::refused;
+use crate::run_ends::{ended, write_output};
+use crate::whole_files::{read_all, read_one, write_one};
+use command_line::endings::{Ending, Exit};
+use command_line::options::{ReplayOptions, UpgradeOptions};
 use journal_texts::errors::JournalError;
 use journal_texts::reading::read_journal;
 use journal_texts::writing::write_journal;

@@ -3,9 +3,9 @@ use Rattle.std.specs.Prelude.{◌≡◌, ◌<◌, ◌^◌, ℕ, List, codes, Opt
 use Rattle.std.specs.Str.Parse.{IsNumeral, digits_value, without_leading_plus}
 use Rattle.clap.specs.declared.parser.matches.Found.{Found}
 use Rattle.clap.specs.Words.{one_text}
-use Rattle.commands.specs.declared.options.ExploreOptions.{ExploreOptions}
-use Rattle.commands.specs.declared.options.RunOptions.{RunOptions}
-use Rattle.commands.specs.declared.options.WorldOptions.{WorldOptions}
+use Rattle.command_line.specs.declared.options.ExploreOptions.{ExploreOptions}
+use Rattle.command_line.specs.declared.options.RunOptions.{RunOptions}
+use Rattle.command_line.specs.declared.options.WorldOptions.{WorldOptions}
 
 -- the number of 32 bits that a text spells in decimal digits, if it spells one; a plus may stand first
 abbrev pub ReadsAs : List ℕ → Option ℕ → Type 0
