@@ -1,4 +1,4 @@
-"""A browser without a screen, for tests: Debian's chromium by its chromedriver. Not called by itself."""
+"""A browser without a screen, for tests: Debian's chromium by its chromedriver. Called by itself it is installed, where it can be."""
 import base64
 import http.client
 import json
@@ -15,8 +15,9 @@ class NoBrowser(Exception):
     """There is no browser here, or none that starts, and why."""
 
 
-# a minute or two where the net is there; where it isn't, a try ends soon
-APT = "timeout 180 apt-get -y -q -o Acquire::Retries=0 -o Acquire::http::Timeout=10 -o DPkg::Lock::Timeout=10".split()
+# A minute or two where the net is there, more on a busy machine; where it isn't, a try ends soon. An installation that is cut off
+# leaves packages half configured.
+APT = "timeout 900 apt-get -y -q -o Acquire::Retries=0 -o Acquire::http::Timeout=10 -o DPkg::Lock::Timeout=10".split()
 PACKAGES = ("chromium", "chromium-driver")
 
 
@@ -145,3 +146,7 @@ class Browser:
                 pass
         self.driver.terminate()
         self.driver.wait()
+
+
+if __name__ == "__main__":
+    installed()

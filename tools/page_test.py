@@ -1,7 +1,8 @@
 #!/usr/bin/env python3
 """Tries the page in a real browser: clicks through what it can do, and compares what it shows with `jvm debug` and `jvm run`.
 
-Usage: page_test.py [--page FILE] [--jvm PROGRAM] [--playground PROGRAM] [--moments N] [--pictures FOLDER] [--gate] [WORD ..]
+Usage: page_test.py [--page FILE] [--jvm PROGRAM] [--playground PROGRAM] [--moments N] [--pictures FOLDER] [--gate]
+    [--module MODULE.bc] [WORD ..]
 
 Without --page a page is built first (tools/page.py). Each example is looked at at some forty moments of its run. With WORDs only
 the tests whose names have one of them are made. --pictures keeps pictures. Needs Debian's chromium and chromium-driver; where
@@ -9,7 +10,8 @@ they are missing it says `page: not tested, no browser`, and that counts as skip
 
 With --gate, which is for a call beside `rt ci` in the same checkout, once it has proved `jvm` and `playground`, or after it, a
 missing browser is installed where that can be done, and the page is of the program that `rt ci` proved, compiled at -O1 for the
-sake of time; each example is looked at at ten moments.
+sake of time; each example is looked at at ten moments. --module is the module of that program, if it was caught
+(tools/catch_module.py); where there is none, `main` is proved once more (tools/page.py).
 
 The last line is 'N passed, M failed', with ', K skipped' where there are some; the status is 1 where something failed.
 """
@@ -26,9 +28,14 @@ import tempfile
 import time
 
 from browser import Browser, NoBrowser, installed
+from plain.machine import World
+from plain.programs import class_file_of
+from plain.run_classes import class_of
 
 ROOT = os.path.dirname(os.path.dirname(os.path.abspath(__file__)))
 LIMIT = 120
+# so many rows of a run are made by the plain machine too
+ROWS_PLAIN = 20000
 # what the page shows, as it stands in its elements
 SHOWN = """
 const lines = (css) => [...document.querySelectorAll(css)].map((it) => it.textContent);
@@ -38,6 +45,7 @@ return {
     number: Number(it.dataset.thread), head: it.querySelector("h3").textContent,
     lines: [...it.querySelectorAll(".lines > div")].map((line) => line.textContent) })),
   cells: [...document.querySelectorAll("#heap [data-cell]")].map((it) => it.getAttribute("aria-label")),
+  lists: Object.fromEntries([...document.querySelectorAll("#lists [data-list]")].map((it) => [it.dataset.list, [...it.querySelectorAll("[data-listed]")].map((one) => Number(one.dataset.listed))])),
   statics: lines("#statics .static"), classes: lines("#statics .class-state"), phase: $("phase").dataset.phase,
   output: $("output").textContent, journal: [...document.querySelectorAll("#journal [data-row]")].map((it) => [Number(it.dataset.row), it.dataset.text ?? ""]),
   chosen: Number(document.querySelector('#journal [aria-selected="true"]')?.dataset.row), refusal: $("refusal").textContent,
@@ -223,6 +231,26 @@ def compared(page, files, shown, rows):
     same("\n".join(objects[1:]), shown["output"], f"output at row {row}")
 
 
+class Plain:
+    """The plain machine in Python (tools/plain) beside a run, row by row, which has the free lists and the grey list as lists of cells."""
+
+    def __init__(self, files):
+        classes = []
+        for file in files:
+            with open(file, "rb") as it:
+                classes.append(class_of(class_file_of(it.read())))
+        self.world, self.made = World(classes, (8, 2, 1), 1000000, 65536), 0
+
+    def lists(self, rows, row):
+        """The lists after so many rows, no fewer than before."""
+        for it in rows[self.made:row]:
+            actor = it.split()[0]
+            self.world.turn(actor if actor == "c" else int(actor))
+        self.made = row
+        heap = self.world.heap
+        return {"grey": heap.grey, **{str(words): cells for words, cells in heap.free.items()}}
+
+
 def moments_of(total, count):
     if total <= count:
         return list(range(total + 1))
@@ -242,11 +270,14 @@ def tried_example(page, name):
         same(rows, [line for line in file.read().split("\n")[4:] if line and not line.startswith("end")], "the journal")
     ends = {0: "finished", 1: "finished", 3: "faulted", 4: "running", 5: "stuck"}
     same(shown["state"]["status"], ends[ran.returncode], "how it ended")
+    plain = Plain(files)
     for row in moments_of(shown["total"], page.moments):
         seen = page.go(row)
         same(seen["at"], row, "the row")
         same(seen["chosen"], row, "the chosen row")
         compared(page, files, seen, rows)
+        if row <= ROWS_PLAIN:
+            same(seen["lists"], plain.lists(rows, row), f"the lists at row {row}")
 
 
 # ---- what can be done
@@ -423,6 +454,10 @@ def tried_heap(page):
     holds(page.browser.run("return document.querySelectorAll('#heap .arrow').length") >= 1, "no arrows")
     page.picture("heap")
     page.browser.click("#arrows")
+    # both objects were made by a thread alone, and no turn of the collector went by
+    same(page.settled()["lists"], {"grey": [2, 3], "4": [4, 5, 6, 7]}, "the lists")
+    page.browser.click('#lists [data-list="4"] [data-listed="6"]')
+    same(page.browser.run("return [$('object').textContent, document.querySelector('#heap [aria-pressed=true]').dataset.cell]"), ["cell 6 of 4 words is free", "6"], "a cell chosen in a list")
 
 
 def tried_timeline(page):
@@ -558,7 +593,7 @@ def tried_lessons(page):
     page.browser.click("#show-lessons")
 
 
-LOOKS = ["state", "threads", "held", "statics", "heap", "output"]
+LOOKS = ["state", "threads", "held", "statics", "heap", "lists", "output"]
 SESSIONS = (
     ["methods", "listing 0", "listing 9", *LOOKS, "rounds 5 1", *LOOKS, "step 0", "gc", "step 200", *LOOKS, "object 1", "object 3", "rounds 100000 2", *LOOKS, "rows 0 50", "rows 40 3", "journal"],
     ["rounds 7 0", "state", "gc", "state", "rounds 100000 1", "state", "threads", "journal", "bad", "rounds 1", "rows 1", "listing", ""],
@@ -664,6 +699,8 @@ def page_of(given, room):
     if given.page:
         return os.path.abspath(given.page)
     words = ["--from-gate", "--level=-O1"] if given.gate else []
+    if given.module and os.path.exists(given.module):
+        words += ["--module", given.module]
     how = {"stdout": subprocess.PIPE, "text": True, "env": {**os.environ, "TMPDIR": room}}
     made = subprocess.run([sys.executable, f"{ROOT}/tools/page.py", f"{room}/page.html", *words], check=False, **how)
     if made.returncode:
@@ -695,6 +732,7 @@ def options():
     words.add_argument("--playground", default=f"{ROOT}/crates/playground/out/playground", type=os.path.abspath)
     words.add_argument("--moments", type=int)
     words.add_argument("--gate", action="store_true")
+    words.add_argument("--module", type=os.path.abspath)
     words.add_argument("--pictures")
     words.add_argument("words", nargs="*")
     given = words.parse_args()

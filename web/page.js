@@ -78,11 +78,11 @@ async function asked(lines, shape = setting().shape) {
   }
 }
 
-const LOOKS = ["state", "threads", "held", "statics", "heap", "output"];
+const LOOKS = ["state", "threads", "held", "statics", "heap", "lists", "output"];
 const looks = () => [...LOOKS, ...(page.methods ?? []).map((klass) => `class ${klass.name}`)];
 
 function viewOf(answers) {
-  const view = { state: answers.state(), threads: answers.threads(), held: answers.held(), statics: answers.statics(), cells: answers.heap() };
+  const view = { state: answers.state(), threads: answers.threads(), held: answers.held(), statics: answers.statics(), cells: answers.heap(), lists: answers.lists() };
   view.output = answers.output();
   view.classes = (page.methods ?? []).map(() => answers.line());
   return view;
@@ -287,8 +287,10 @@ async function show(told = "") {
   showThreads(view, (number) => turn(String(number)));
   showStatics(view);
   showHeap(view, choose);
+  showLists(view, choose);
   $("output").textContent = view.output;
   showMarks();
+  follow();
   look();
   $("row").value = page.at;
   $("rows-count").textContent = `of ${rowsOf(page.moves)}`;
@@ -337,6 +339,15 @@ function showMarks() {
   const refused = page.refusal && page.refusal.source === page.shown ? Number(/at line (\d+)/.exec(page.refusal.what)?.[1]) : null;
   const stops = page.breakpoints.get(page.shown) ?? new Map();
   showGutter(source.text ?? "(a class file: see its listing)", marksShown(places), stops, places, refused, toggle);
+}
+
+// Scrolls the text to where the next thread stands, unless someone writes there.
+function follow() {
+  const text = $("text"), mark = $("gutter").querySelector(`.who[data-thread="${page.view.state.next}"]`);
+  if (!mark || document.activeElement === text) return;
+  const top = mark.parentElement.offsetTop - $("gutter").offsetTop, high = mark.parentElement.offsetHeight;
+  if (top < text.scrollTop || top + 2 * high > text.scrollTop + text.clientHeight) text.scrollTop = Math.max(0, top - text.clientHeight / 2);
+  $("gutter").scrollTop = text.scrollTop;
 }
 
 function toggle(line, place) {

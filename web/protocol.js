@@ -261,6 +261,16 @@ class Answers {
     return cells;
   }
 
+  // The grey list's births and the free lists' cells, each in its order: {grey, 4, 32, 256}.
+  lists() {
+    const lists = {};
+    for (const line of this.linesWhile((it) => /^(grey|free )/.test(it))) {
+      const words = line.split(" "), key = words.shift() === "grey" ? "grey" : words.shift();
+      lists[key] = words.map((it) => Number(it.replace("#", "")));
+    }
+    return lists;
+  }
+
   methods() {
     const classes = [];
     for (;;) {

@@ -92,6 +92,28 @@ function showHeap(view, choose) {
   if (view.cells.length > MOST_CELLS) $("heap").append(element("p", {}, `The first ${MOST_CELLS} of ${view.cells.length} cells are shown.`));
 }
 
+// ---- the grey list and the free lists
+
+const MOST_LISTED = 200;
+const LISTS = [["grey", "Grey list, the next to turn black first"], ...SIZES.map(([words]) => [String(words), `Free cells of ${words} words, the next to be taken first`])];
+
+// A list's cells in order; each can be chosen, as in the heap.
+function listShown(key, title, cells, choose) {
+  const items = cells.slice(0, MOST_LISTED).map((cell) => {
+    const birth = cell.birth === undefined ? "" : ` #${cell.birth}`;
+    return element("li", {}, element("button", { class: `listed ${cell.colour}`, "data-listed": cell.number, "aria-label": `cell ${cell.number}${birth}`, onclick: () => choose(cell) }, `${cell.number}${birth}`));
+  });
+  const left = cells.length - items.length, rest = cells.length === 0 ? " none" : left > 0 ? ` and ${left} more` : "";
+  return element("div", { class: "cell-list", "data-list": key }, element("h3", { id: `list-${key}` }, title), element("ol", { "aria-labelledby": `list-${key}` }, ...items), element("span", { class: "small" }, rest));
+}
+
+function showLists(view, choose) {
+  const holding = new Map(view.cells.filter((cell) => cell.birth !== undefined).map((cell) => [cell.birth, cell]));
+  const there = LISTS.filter(([key]) => key === "grey" || view.cells.some((cell) => String(cell.words) === key));
+  $("lists").replaceChildren(...there.map(([key, title]) =>
+    listShown(key, title, view.lists[key].map((it) => (key === "grey" ? holding.get(it) : view.cells[it])), choose)));
+}
+
 const SVG = "http://www.w3.org/2000/svg";
 
 function drawing(name, attributes = {}, ...children) {
@@ -164,7 +186,7 @@ function showGutter(text, marks, breakpoints, places, refusedLine, toggle) {
     if (stops) classes.push("break");
     if (number === refusedLine) classes.push("refused");
     const line = element("div", { class: classes.join(" "), "data-line": number });
-    for (const thread of here) line.append(element("span", { class: `who who${thread % 4}`, title: `thread ${thread} stands here` }, String(thread)));
+    for (const thread of here) line.append(element("span", { class: `who who${thread % 4}`, "data-thread": thread, title: `thread ${thread} stands here` }, String(thread)));
     if (place) line.append(element("button", { "aria-pressed": String(stops), "aria-label": `Breakpoint at line ${number}, ${place.method} pc ${place.pc}`, title: `${place.method} pc ${place.pc}: breakpoint`, onclick: () => toggle(number, place) }, String(number)));
     else line.append(element("span", {}, String(number)));
     lines.push(line);

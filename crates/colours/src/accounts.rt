@@ -11,6 +11,8 @@ ghost use Rattle.join.specs.TurnsOnCells.{shade_cell};
 ghost use Rattle.colours.specs.Births.{taken_cell, born_in, front_blackened, colour_in};
 ghost use Rattle.colours.specs.Sound.{free_in, grey_in};
 
+mod copies;
+
 use crate::free_lists::FreeLists;
 use crate::queues::push;
 use circular_buffer::HeapCircularBuffer;

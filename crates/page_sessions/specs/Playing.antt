@@ -9,10 +9,10 @@ use Rattle.model.specs.Machines.{Recorded}
 use Rattle.model.specs.Observers.{ideal, output_of}
 use Rattle.page_texts.specs.declared.requests.Request.{Request}
 use Rattle.page_texts.specs.declared.requests.Request.TheVariants.{Rounds, State, Threads, Held, Statics, Methods, Rows}
-use Rattle.page_texts.specs.declared.requests.Request.TheVariants.{Listing, Explore, Output, Journal}
+use Rattle.page_texts.specs.declared.requests.Request.TheVariants.{Lists, Listing, Explore, Output, Journal}
 use Rattle.page_texts.specs.Requests.{request_of}
 use Rattle.page_texts.specs.Shown.{classes_lines, rounds_text, rows_text, whole_text}
-use Rattle.page_sessions.specs.Texts.{exploration_text, helds_text, listing_text, state_text, threads_text}
+use Rattle.page_sessions.specs.Texts.{exploration_text, helds_text, listing_text, state_text, threads_text, world_lists_text}
 use Rattle.scheduler.specs.Rounds.{after_rounds, rounds_answer, rounds_left}
 
 -- A session of requests, and of commands of the debugger.
@@ -34,6 +34,7 @@ Asks s (Rounds n gc) t answer = Turns s (after_rounds s.world 0 gc n) t answer
 Asks s State t answer = Answers s t answer (state_text s.world)
 Asks s Threads t answer = Answers s t answer (threads_text s.world)
 Asks s Held t answer = Answers s t answer (helds_text s.world)
+Asks s Lists t answer = Answers s t answer (world_lists_text s.world)
 Asks s Statics t answer = Answers s t answer (fields_text (ideal s.world).statics.fields)
 Asks s Methods t answer = Answers s t answer (classes_lines s.world.program)
 Asks s (Rows first count) t answer = Answers s t answer (rows_text s.world.journal.rows first count)

@@ -5,13 +5,14 @@ use Rattle.debug_texts.specs.Answers.{birth_text, line, numbered, stack_text, va
 use Rattle.explore_texts.specs.Reports.{report_text}
 use Rattle.explore_texts.specs.Witnesses.{move_line}
 use Rattle.exploring.specs.Explorations.{Finding, Report}
+use Rattle.model.specs.Accounts.{Account}
 use Rattle.model.specs.ClassListings.{ClassListing}
 use Rattle.model.specs.Machines.{Recorded, machine_of}
 use Rattle.model.specs.Observers.{fault_of, ideal, next_birth_of, phase_of, pick_of, status_of, thread_of}
 use Rattle.model.specs.Shows.{Held, ObjectKind}
 use Rattle.model.specs.Shows.ObjectKind.{OfClass, OfElements}
 use Rattle.model.specs.Texts.Disassembling.{text_of}
-use Rattle.page_texts.specs.Shown.{fault_line, state_line, thread_line, whole_text}
+use Rattle.page_texts.specs.Shown.{fault_line, lists_text, state_line, thread_line, whole_text}
 use Rattle.scheduler.specs.Showing.{shown_in}
 
 -- What a world answers to each look at it.
@@ -70,6 +71,14 @@ helds_from number (h ∷ hs) = held_line number h ++ helds_from (number + 1) hs
 
 abbrev pub helds_text : Recorded → List ℕ
 helds_text v = helds_from 0 (map (shown_in (machine_of v)) (machine_of v).account.cells)
+
+-- ---- the lists of the heap's cells
+
+abbrev pub account_lists_text : Account → List ℕ
+account_lists_text a = lists_text a.grey a.small a.medium a.large
+
+abbrev pub world_lists_text : Recorded → List ℕ
+world_lists_text v = account_lists_text (machine_of v).account
 
 -- ---- listings
 

@@ -7,8 +7,8 @@ ghost use Rattle.page_texts.specs.Shown.{rounds_text};
 ghost use Rattle.page_sessions.specs.Playing.{Asks};
 
 use crate::looking::{
-    held_of, journal_of, listing_of, methods_of, output_of, rows_of, state_of, statics_of,
-    threads_of,
+    held_of, journal_of, listing_of, lists_of, methods_of, output_of, rows_of, state_of,
+    statics_of, threads_of,
 };
 use crate::schedules::tell_exploration;
 use debug_texts::sinks::Sink;
@@ -55,6 +55,7 @@ pub fn ask<S: Sink>(
         Request::State => put_made(sink, state_of(alloc, world)),
         Request::Threads => put_made(sink, threads_of(alloc, world)),
         Request::Held => put_made(sink, held_of(alloc, world)),
+        Request::Lists => put_made(sink, lists_of(alloc, world)),
         Request::Statics => put_made(sink, statics_of(alloc, world)),
         Request::Methods => put_made(sink, methods_of(alloc, world)),
         Request::Rows { first, count } => put_made(sink, rows_of(alloc, world, first, count)),

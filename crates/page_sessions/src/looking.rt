@@ -5,6 +5,7 @@ ghost use Rattle.model.specs.JournalTexts.{journal_text};
 ghost use Rattle.model.specs.Observers.{ideal, output_of};
 ghost use Rattle.page_texts.specs.Shown.{classes_lines, rows_text, whole_text};
 ghost use Rattle.page_sessions.specs.Texts.{helds_text, listing_text, state_text, thread_text, threads_text};
+ghost use Rattle.page_sessions.specs.Texts.{world_lists_text};
 
 use crate::held::helds_answer;
 use debug_texts::frames::stack_answer;
@@ -13,6 +14,7 @@ use journal_texts::writing::write_journal;
 use model::listings::Listing;
 use page_texts::fields::fields_answer;
 use page_texts::journal_rows::rows_answer;
+use page_texts::lists::lists_answer;
 use page_texts::methods::methods_answer;
 use page_texts::states::{write_fault, write_state};
 use page_texts::threads::write_thread;
@@ -72,6 +74,20 @@ pub fn held_of(alloc: Global, world: &World) -> Result<Vec<u8>, AllocError>
 {
     let helds = world.helds()?;
     helds_answer(alloc, helds.as_slice())
+}
+
+/// The grey list and the free lists, in their order.
+pub fn lists_of(alloc: Global, world: &World) -> Result<Vec<u8>, AllocError>
+    ensures { IfOk result (λ text. text.items ≡ world_lists_text world.now) }
+{
+    let lists = world.lists()?;
+    lists_answer(
+        alloc,
+        lists.grey.as_slice(),
+        lists.small.as_slice(),
+        lists.medium.as_slice(),
+        lists.large.as_slice(),
+    )
 }
 
 /// The static fields.

@@ -4,7 +4,7 @@ use Rattle.std.specs.Str.{bytes_eq}
 use Rattle.journal_texts.specs.JournalReading.{following, number_at, number_of}
 use Rattle.page_texts.specs.declared.requests.Request.{Request}
 use Rattle.page_texts.specs.declared.requests.Request.TheVariants.{Rounds, State, Threads, Held, Statics, Methods, Rows}
-use Rattle.page_texts.specs.declared.requests.Request.TheVariants.{Listing, Explore, Output, Journal}
+use Rattle.page_texts.specs.declared.requests.Request.TheVariants.{Lists, Listing, Explore, Output, Journal}
 
 -- What a request says. One space stands between two words; a number prints as it stands there.
 
@@ -13,6 +13,7 @@ alone line =
     if bytes_eq line (codes "state") then Some State
     else if bytes_eq line (codes "threads") then Some Threads
     else if bytes_eq line (codes "held") then Some Held
+    else if bytes_eq line (codes "lists") then Some Lists
     else if bytes_eq line (codes "statics") then Some Statics
     else if bytes_eq line (codes "methods") then Some Methods
     else if bytes_eq line (codes "output") then Some Output

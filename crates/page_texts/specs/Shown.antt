@@ -1,6 +1,6 @@
 use Rattle.std.specs.Prelude.{ℕ, List, [], ◌∷◌, ◌++◌, codes, drop, length, take, Option, Some, None}
 use Rattle.std.specs.Fmt.{decimal}
-use Rattle.debug_texts.specs.Answers.{line, numbered, turn_text}
+use Rattle.debug_texts.specs.Answers.{birth_text, line, numbered, turn_text}
 use Rattle.model.specs.declared.colours.Phase.{Phase}
 use Rattle.model.specs.declared.colours.Phase.TheVariants.{Idle, Statics, Frames, Mark, Append}
 use Rattle.model.specs.declared.journals.Row.{Row}
@@ -91,6 +91,28 @@ class_lines c = line (codes "class " ++ c.name) ++ methods_lines c.methods
 abbrev pub classes_lines : List ClassListing → List ℕ
 classes_lines [] = []
 classes_lines (c ∷ cs) = class_lines c ++ classes_lines cs
+
+-- ---- the lists of the heap's cells
+
+-- each after a space
+abbrev pub births_words : List ℕ → List ℕ
+births_words [] = []
+births_words (b ∷ bs) = 32 ∷ (birth_text b ++ births_words bs)
+
+abbrev pub cells_words : List ℕ → List ℕ
+cells_words [] = []
+cells_words (c ∷ cs) = 32 ∷ (decimal c ++ cells_words cs)
+
+-- the free cells of so many words
+abbrev pub free_line : ℕ → List ℕ → List ℕ
+free_line words cells = line (numbered (codes "free") words ++ cells_words cells)
+
+abbrev pub grey_line : List ℕ → List ℕ
+grey_line births = line (codes "grey" ++ births_words births)
+
+abbrev pub lists_text : (grey small medium large : List ℕ) → List ℕ
+lists_text grey small medium large =
+    grey_line grey ++ free_line 4 small ++ free_line 32 medium ++ free_line 256 large
 
 -- ---- rows
 

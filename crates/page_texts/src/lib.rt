@@ -4,6 +4,7 @@
 
 pub mod fields;
 pub mod journal_rows;
+pub mod lists;
 pub mod methods;
 pub mod requests;
 pub mod rounds;

@@ -12,6 +12,7 @@ pub enum Request {
     State,
     Threads,
     Held,
+    Lists,
     Statics,
     Methods,
     Rows { first: u32, count: u32 },
@@ -32,6 +33,8 @@ fn alone(line: &[u8]) -> Option<Request>
         Some(Request::Threads)
     } else if line == b"held".as_slice() {
         Some(Request::Held)
+    } else if line == b"lists".as_slice() {
+        Some(Request::Lists)
     } else if line == b"statics".as_slice() {
         Some(Request::Statics)
     } else if line == b"methods".as_slice() {

@@ -7,10 +7,10 @@ use Rattle.debugger.proofs.Carried.{told_carries, written_carries}
 use Rattle.model.specs.JournalTexts.{journal_text}
 use Rattle.model.specs.Observers.{ideal, output_of}
 use Rattle.page_texts.specs.declared.requests.Request.TheVariants.{Rounds, State, Threads, Held, Statics, Methods, Rows}
-use Rattle.page_texts.specs.declared.requests.Request.TheVariants.{Listing, Output, Journal}
+use Rattle.page_texts.specs.declared.requests.Request.TheVariants.{Lists, Listing, Output, Journal}
 use Rattle.page_texts.specs.Shown.{classes_lines, rounds_text, rows_text, whole_text}
 use Rattle.page_sessions.specs.Playing.{Asks}
-use Rattle.page_sessions.specs.Texts.{helds_text, listing_text, state_text, threads_text}
+use Rattle.page_sessions.specs.Texts.{helds_text, listing_text, state_text, threads_text, world_lists_text}
 use Rattle.scheduler.specs.Rounds.{after_rounds, rounds_answer, rounds_left}
 use Rattle.page_sessions.proofs.asking.ask.Goals as goal
 
@@ -52,6 +52,15 @@ returns-in-Held-clause-carried g c = λ bs.
     rw c.in-Held.is
     (told_carries (Asks s (Held)) made.result s (g.S.Sink.contents c.args.sink.now) (g.S.Sink.contents made.new.sink)
     text (refl, refl) (made.ensures.told text c.held_of.ensures))
+
+pub returns-in-Lists-clause-carried : goal.returns-in-Lists-clause-carried
+returns-in-Lists-clause-carried g c = λ bs.
+    let s = debugged c.args.world.now bs in
+    let made = c.put_made-in-Lists in
+    let text = world_lists_text s.world in
+    rw c.in-Lists.is
+    (told_carries (Asks s (Lists)) made.result s (g.S.Sink.contents c.args.sink.now) (g.S.Sink.contents made.new.sink)
+    text (refl, refl) (made.ensures.told text c.lists_of.ensures))
 
 pub returns-in-Statics-clause-carried : goal.returns-in-Statics-clause-carried
 returns-in-Statics-clause-carried g c = λ bs.
