@@ -198,7 +198,7 @@ def tried_merged(jvm, room):
     with open(cut := f"{room}/cut.txt", "wb") as file:
         file.write(b"outcome 1: stuck\nturns 9\noutput 0\nexplored 7 states, 8 turns: cut off: states\n")
     yield "one report merged", None if run(*merge, report) == whole + b"status 0\n" else "it differs"
-    both = whole.replace(b"turns 11\n", b"turns 9\n").replace(b"54 states, 110 turns: complete", b"61 states, 118 turns: cut off: states")
+    both = whole.replace(b"turns 11\n", b"turns 9\n").replace(b"52 states, 110 turns: complete", b"59 states, 118 turns: cut off: states")
     yield "two reports merged", None if run(*merge, report, cut) == both + b"status 4\n" else "it differs"
     for words, status in (([f"{EXAMPLES}/D.j"], b"2"), ([room + "/none"], b"6"), ([], b"7")):
         yield f"merge_reports.py {words}", None if run(*merge, *words).endswith(b"status " + status + b"\n") else "its status"

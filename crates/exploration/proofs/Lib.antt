@@ -7,10 +7,15 @@ pub mod NewBirths
 pub mod Observations
 pub mod Opening
 pub mod Outcomes
+pub mod PlainFrames
 pub mod PlainSteps
+pub mod PlainTests
+pub mod PlainTurns
+pub mod QuietTurns
 pub mod ReducedRuns
 pub mod ReducedWitnesses
 pub mod RowCounts
 pub mod Search
+pub mod Staying
 pub mod Turns
 pub mod Witnesses

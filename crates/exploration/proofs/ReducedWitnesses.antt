@@ -5,7 +5,7 @@ use Rattle.model.specs.declared.turns.Actor.TheVariants.{Thread as ThreadActor}
 use Rattle.model.specs.declared.turns.Fault.{Fault}
 use Rattle.model.specs.declared.turns.Turn.TheVariants.{NotReady, OutputFull, StepLimit}
 use Rattle.model.specs.ClassListings.{ClassListing}
-use Rattle.model.specs.Frames.{Frame, with_running}
+use Rattle.model.specs.Frames.{Frame}
 use Rattle.model.specs.Worlds.{World, Thread, opening_world, counted, with_thread, lives, is_live}
 use Rattle.model.specs.Worlds.Thread.{Live}
 use Rattle.model.specs.Completions.{Completion, waits, prints}
@@ -26,6 +26,8 @@ use Rattle.exploration.proofs.Composition.{represents_image}
 use Rattle.exploration.proofs.ClosedLists.{after_same, pairs_after, same_refusal}
 use Rattle.exploration.proofs.Witnesses.{size_more, unrefused_back, turn_is}
 use Rattle.exploration.proofs.PlainSteps.{plain_comes, plain_next, image_ahead}
+use Rattle.exploration.proofs.ReducedRuns.{step_later}
+use Rattle.exploration.proofs.Staying.{Stays}
 
 -- steps that look at the running frame alone are turns of the ideal run, which nothing refuses below the limit of steps
 
@@ -33,9 +35,9 @@ module _ (program : List ClassListing) (limits : Limits) where
   -- ---- one step
 
   module _ (w : World) (t : ℕ) (fs gs : List Frame) (clean : w.fault ≡ None) (below : w.rows < limits.steps)
-      (live : slice_get w.threads t ≡ Some (Live fs)) (step : PlainStep program fs gs) where
-    comes : (ws : List ℕ) × (completion program w t ≡ Goes (with_thread w t (Live (with_running fs step.other))) ws)
-    comes = plain_comes program w t fs step.frame step.other live step.runs step.steps
+      (live : slice_get w.threads t ≡ Some (Live fs)) (step : PlainStep program w fs gs) where
+    comes : (ws : List ℕ) × (completion program w t ≡ Goes (with_thread w t (Live gs)) ws)
+    comes = plain_comes program w t fs gs live step
 
     ready : is_ready program w t ≡ true
     ready =
@@ -61,10 +63,16 @@ module _ (program : List ClassListing) (limits : Limits) where
 
     one_step : ideal_step program limits w (ThreadActor t) NewObject ≡ counted (with_thread w t (Live gs))
     one_step = turn_is program limits w t NewObject free
-        ∙ ap counted (plain_next program w t fs step.frame step.other live step.runs step.steps NewObject)
-        ∙ ap (λ ks. counted (with_thread w t (Live ks))) (sym step.is)
+        ∙ ap counted (plain_next program w t fs gs live step NewObject)
 
   -- ---- several
+
+  -- a count of rows is looked at by none
+  uncounted_stays : (w : World) → Stays program (uncounted w) w
+  uncounted_stays w = record {
+    classes = λ b class e. e;
+    settled = λ c k. record { done = k.done; undeclared = k.undeclared; not_running = k.not_running };
+  }
 
   record Made (w z : World) (pairs : List Pair) : Type 0 where
     is : z ≡ uncounted (moved_through program limits w pairs)
@@ -77,7 +85,9 @@ module _ (program : List ClassListing) (limits : Limits) where
       let there : slice_get w.threads t ≡ Some (Live fs) = ap (λ (k : World). slice_get k.threads t) (sym e) ∙ live in
       let below : w.rows < limits.steps = omega (arith, l) in
       let next_w = counted (with_thread w t (Live gs)) in
-      let is = one_step w t fs gs clean below there step in
+      let here : PlainStep program w fs gs = step_later program (uncounted w) w (uncounted_stays w) fs gs
+      (subst (λ (k : World). PlainStep program k fs gs) e step) in
+      let is = one_step w t fs gs clean below there here in
       let further = made (with_thread y t (Live gs)) v rest next_w (ap (λ (k : World). with_thread k t (Live gs)) e) clean
       (omega (arith, l)) in
       let count = Made.counts further in

@@ -2,6 +2,7 @@ pub mod CanonicalForms
 pub mod ClosedLists
 pub mod Observations
 pub mod Outcomes
+pub mod PlainTurns
 pub mod ReducedRuns
 pub mod Reduction
 pub mod Representation

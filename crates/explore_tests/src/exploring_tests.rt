@@ -1,7 +1,7 @@
 //! Explorations of small programs whose outcomes were worked out by hand.
 
 use crate::programs::{
-    ALL, FAULT, GARBAGE, LIMITS, LOCKS, MAKERS, PRINTS, explored, program_of, watched,
+    ALL, FAULT, GARBAGE, HELPERS, LIMITS, LOCKS, MAKERS, PRINTS, explored, program_of, watched,
 };
 use exploring::{Bounds, Choice, Cut, End, Explored, States, canonical, keys_tell};
 use ideal_run::Transitions;
@@ -53,6 +53,16 @@ fn garbage_makes_no_states(rt: HostRuntime) -> Result<(), Fail> {
     let explored = explored(rt.alloc(), GARBAGE, LIMITS, ALL)?;
     assert!(rt; are(&explored, &[]));
     assert!(rt; explored.states <= 3);
+    Ok(())
+}
+
+/// A method of local work is no state: main stands at its opening, at the start of the thread and at its end, or has ended,
+/// and the thread at its opening or its end, or has ended.
+#[test]
+fn local_work_is_no_state(rt: HostRuntime) -> Result<(), Fail> {
+    let explored = explored(rt.alloc(), HELPERS, LIMITS, ALL)?;
+    assert!(rt; are(&explored, &[Status::Finished]));
+    assert!(rt; explored.states <= 8);
     Ok(())
 }
 

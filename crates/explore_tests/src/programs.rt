@@ -30,6 +30,14 @@ pub const MAKERS: &str =
     new M\ninvokevirtual M/start()V\nnew java/lang/Object\npop\nreturn\n.end method\n\
     .method run()V\n.limit stack 1\n.limit locals 1\nnew java/lang/Object\npop\nreturn\n.end method\n";
 
+/// Two threads, each of which calls a method that counts to three by itself.
+pub const HELPERS: &str =
+    ".class H\n.super java/lang/Thread\n.method static main()V\n.limit stack 1\n.limit locals 0\n\
+    new H\ninvokevirtual H/start()V\ninvokestatic H/three()I\npop\nreturn\n.end method\n\
+    .method static three()I\n.limit stack 2\n.limit locals 1\niconst_0\nistore_0\nAgain:\niinc 0 1\n\
+    iload_0\niconst_3\nif_icmplt Again\niload_0\nireturn\n.end method\n\
+    .method run()V\n.limit stack 1\n.limit locals 1\ninvokestatic H/three()I\npop\nreturn\n.end method\n";
+
 /// Prints an A, again and again.
 pub const PRINTS: &str =
     ".class P\n.super java/lang/Object\n.method static main()V\n.limit stack 1\n.limit locals 0\n\

@@ -1,10 +1,13 @@
 //! Going ahead: after a thread's turn, the plain steps of the same thread, to which no schedule matters.
 ghost use Rattle.std.specs.Prelude.{◌≡◌, IfOk, IfSome};
-ghost use Rattle.exploring.specs.Ahead.{IsPlainTurn, IsQuietTurn, WentOn, WentUpTo, is_plain};
+ghost use Rattle.exploration.specs.PlainTurns.{is_plain, may_return};
+ghost use Rattle.exploring.specs.Ahead.{IsPlainTurn, IsQuietCall, IsQuietReturn, IsQuietTurn, WentOn, WentUpTo};
 
+use crate::entered::{has_entered, is_plain_frame};
+use ideal_run::frames::Frame;
 use ideal_run::worlds::{World, running};
 use ideal_run::{Choice, Transitions};
-use model::instructions::Instruction;
+use model::instructions::{Instruction, Invocation};
 use model::listings::Listed;
 use model::turns::Mark;
 use std::alloc::AllocError;
@@ -57,6 +60,50 @@ fn quiet_turn(
     Ok(Some(made.world))
 }
 
+/// Whether a frame may be left for a caller, so that no other thread can tell.
+fn may_return(transitions: &Transitions<'_>, frames: &[Frame], frame: &Frame) -> bool
+    ensures { result ≡ may_return transitions.now.program frames.now frame.now }
+{
+    2 <= frames.len() && is_plain_frame(transitions, frame)
+}
+
+/// What a return leaves, if it is a plain step. `AllocError` where memory runs out, or a number has no room.
+fn returned_turn(
+    transitions: &Transitions<'_>,
+    world: &World,
+    thread: u8,
+    frame: &Frame,
+) -> Result<Option<World>, AllocError>
+    ensures { IfOk result (λ after. IfSome after (IsQuietReturn transitions.now world.now thread frame.now)) }
+{
+    if !may_return(transitions, world.frames_at(thread), frame) {
+        return Ok(None);
+    }
+    let Some(after) = quiet_turn(transitions, world, thread)? else {
+        return Ok(None);
+    };
+    Ok(Some(after))
+}
+
+/// What a call leaves, if it is a plain step. `AllocError` where memory runs out, or a number has no room.
+fn called_turn(
+    transitions: &Transitions<'_>,
+    world: &World,
+    thread: u8,
+    frame: &Frame,
+    invocation: Invocation,
+) -> Result<Option<World>, AllocError>
+    ensures { IfOk result (λ after. IfSome after (IsQuietCall transitions.now world.now thread frame.now invocation)) }
+{
+    let Some(after) = quiet_turn(transitions, world, thread)? else {
+        return Ok(None);
+    };
+    if has_entered(transitions, world, thread, frame, invocation, &after) {
+        return Ok(Some(after));
+    }
+    Ok(None)
+}
+
 /// What a plain step of a thread leaves, if that is what it makes next. `AllocError` where memory runs out, or a number
 /// has no room.
 fn plain_turn(
@@ -78,6 +125,12 @@ fn plain_turn(
     };
     if is_plain(&placed.instruction) {
         return quiet_turn(transitions, world, thread);
+    }
+    if let Instruction::Return(_) = &placed.instruction {
+        return returned_turn(transitions, world, thread, frame);
+    }
+    if let Instruction::Invoke(invocation, _) = &placed.instruction {
+        return called_turn(transitions, world, thread, frame, *invocation);
     }
     Ok(None)
 }

@@ -6,6 +6,7 @@ ghost use Rattle.exploring.specs.States.{KeysTell};
 
 mod ahead;
 mod chains;
+mod entered;
 mod explored;
 mod forms;
 mod keys;

@@ -1,5 +1,5 @@
 //! `newarray`, `anewarray`, `arraylength`, and loads and stores of elements (JVMS 6.5).
-ghost use Rattle.std.specs.Prelude.{◌≡◌, IfOk, Ok, drop, pos};
+ghost use Rattle.std.specs.Prelude.{◌≡◌, ◌≤◌, ◌^◌, IfOk, OnErr, Ok, drop, pos};
 ghost use Rattle.std.specs.Option.{option_copied};
 ghost use Rattle.model.specs.declared.instructions.ArrayOperation.TheVariants.{Length, Load, Store};
 ghost use Rattle.model.specs.Classes.Types.{described};
@@ -95,9 +95,10 @@ fn length_in(object: Option<&ObjectView>) -> Option<usize>
     }
 }
 
-/// A number as an int. `AllocError` where it is past the ints.
+/// A number as an int. `AllocError` exactly where it is past the ints.
 fn int_of(number: usize) -> Result<i32, AllocError>
-    ensures { IfOk result (λ int. int ≡ pos number) }
+    ensures int { IfOk result (λ int. int ≡ pos number) }
+    ensures past { OnErr result (2 ^ 31 ≤ number) }
 {
     match i32::try_from(number) {
         Ok(int) => Ok(int),

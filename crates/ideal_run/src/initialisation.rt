@@ -57,7 +57,8 @@ pub fn set_states(states: &mut [ClassState], classes: &[usize], state: ClassStat
     }
 }
 
-fn declares_initializer(class: &Listing) -> bool
+/// Whether a class declares an initializer.
+pub fn declares_initializer(class: &Listing) -> bool
     ensures { result ≡ declares_initializer class.now }
 {
     class
@@ -140,7 +141,7 @@ fn opening_states(alloc: Global, program: &Program<'_>) -> Result<Vec<ClassState
 }
 
 /// The state of a class by its place.
-fn state_of(states: &[ClassState], class: usize) -> ClassState
+pub fn state_of(states: &[ClassState], class: usize) -> ClassState
     ensures { result ≡ slice_index_or states.now class Done }
 {
     states.get(class).copied().unwrap_or(ClassState::Done)

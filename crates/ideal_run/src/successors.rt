@@ -1,8 +1,9 @@
 //! What a thread's turn makes of a world, whichever world it is (JVMS 2.5, 2.6): for those who look at every schedule of
 //! a program.
-ghost use Rattle.std.specs.Prelude.{◌≡◌, ℕ, IfOk, is_some};
-ghost use Rattle.std.specs.Option.{option_copied};
+ghost use Rattle.std.specs.Prelude.{◌≡◌, ◌<◌, ◌^◌, ℕ, IfOk, OnErr, false, is_some, length, slice_get};
+ghost use Rattle.std.specs.Option.{option_copied, option_map_or};
 ghost use Rattle.model.specs.Completions.{asks, waits};
+ghost use Rattle.model.specs.Initialisation.{declares_initializer, runs_initializer};
 ghost use Rattle.model.specs.Observers.{status_in};
 ghost use Rattle.model.specs.Programs.{instruction_of};
 ghost use Rattle.model.specs.Ready.{is_ready, some_is_ready, some_lives};
@@ -16,6 +17,7 @@ use crate::copies::copy;
 use crate::effects::{Choice, carry_out};
 use crate::frames::Frame;
 use crate::ideal::is_refused;
+use crate::initialisation::declares_initializer;
 use crate::opening::opening_world;
 use crate::programs::Program;
 use crate::table::completion;
@@ -92,9 +94,10 @@ fn waits(completion: &Completion) -> bool
     }
 }
 
-/// Whether some thread lives. `AllocError` where there are more threads than 32 bits count.
+/// Whether some thread lives. `AllocError` only where there are more threads than 32 bits count.
 fn some_lives(world: &World) -> Result<bool, AllocError>
-    ensures { IfOk result (λ lives. lives ≡ some_lives world.now) }
+    ensures lives { IfOk result (λ lives. lives ≡ some_lives world.now) }
+    ensures more { OnErr result (2 ^ 32 < length world.now.threads) }
 {
     for place in 0..world.threads().len() {
         let Ok(thread) = u32::try_from(place) else {
@@ -190,6 +193,23 @@ impl<'a> Transitions<'a> {
         ensures { option_copied result ≡ instruction_of self.now.program frame.now }
     {
         self.program.instruction_of(frame)
+    }
+
+    /// Whether a frame runs a class initializer.
+    pub fn runs_initializer(&self, frame: &Frame) -> bool
+        ensures { result ≡ runs_initializer self.now.program frame.now }
+    {
+        self.program.runs_initializer(frame)
+    }
+
+    /// Whether the class of a place declares an initializer.
+    pub fn declares_initializer(&self, class: usize) -> bool
+        ensures { result ≡ option_map_or declares_initializer (slice_get self.now.program class) false }
+    {
+        match self.program.listings().get(class) {
+            None => false,
+            Some(listing) => declares_initializer(listing),
+        }
     }
 
     /// Whether a thread is ready.

@@ -1,8 +1,9 @@
 //! The ideal world (JVMS 2.5, 2.6): what threads, statics, output and objects are on a heap where nothing is ever
 //! freed.
 ghost use Rattle.std.specs.Prelude.{◌≡◌, ◌≤◌, ◌+◌, ◌^◌, ◌∷◌, [], ◌++◌, length, IfOk, OnOk, OnErr, MatchResult, Some};
-ghost use Rattle.std.specs.Prelude.{slice_get, slice_set, take};
+ghost use Rattle.std.specs.Prelude.{slice_get, slice_index_or, slice_set, take};
 ghost use Rattle.std.specs.Option.{option_copied};
+ghost use Rattle.model.specs.declared.turns.ClassState.TheVariants.{Done};
 ghost use Rattle.model.specs.Frames.{running, with_running, callers};
 ghost use Rattle.model.specs.Monitors.{monitor_of, with_monitor_of};
 ghost use Rattle.model.specs.Objects.{class_of, class_at, object_at, with_new};
@@ -16,6 +17,7 @@ ghost use Rattle.model.specs.Worlds.{with_class_states, with_output, counted};
 ghost use Rattle.ideal_run.specs.Steps.{monitor_in, new_world, stepped, started_on};
 
 use crate::frames::Frame;
+use crate::initialisation::state_of;
 use model::names::Name;
 use model::turns::{ClassState, Fault};
 use model::values::Value;
@@ -397,6 +399,13 @@ impl World {
         ensures { result.now ≡ self.now.statics.states }
     {
         &self.states
+    }
+
+    /// The state of a class by its place; past the last one it counts as initialised.
+    pub fn class_state(&self, class: usize) -> ClassState
+        ensures { result ≡ slice_index_or self.now.statics.states class Done }
+    {
+        state_of(self.states(), class)
     }
 
     /// What a static field holds.

@@ -3,8 +3,8 @@ use Rattle.model.specs.Worlds.{is_live}
 use Rattle.ideal_run.proofs.StatusLemmas.{any-found, any-later}
 use Rattle.ideal_run.proofs.successors.some_lives.Goals as goal
 
-pub returns-then-is_live : goal.returns-then-is_live
-returns-then-is_live c =
+pub returns-then-is_live-clause-lives : goal.returns-then-is_live-clause-lives
+returns-then-is_live-clause-lives c =
     let w = c.args.world.now in
     let count = ap length c.threads-place-end.ensures in
     let within = c.loop-place-test.true in
