@@ -14,10 +14,10 @@ use Rattle.model.specs.declared.turns.Status.{Status}
 use Rattle.model.specs.declared.turns.Turn.{Turn}
 use Rattle.model.specs.declared.turns.Turn.TheVariants.{Done}
 use Rattle.model.specs.Machines.{Recorded, answer_to}
-use Rattle.model.specs.Observers.{ideal, is_running, pick_of, place_of, status_of}
+use Rattle.model.specs.Observers.{ideal, is_running, place_of, status_of}
 use Rattle.instructions.specs.Stops.{is_stop, number_of}
 use Rattle.instructions.specs.declared.stops.Stops.{Stops}
-use Rattle.scheduler.specs.Rounds.{IsRoundPast, PickedPast, PicksPast, RoundsPast, after_round, is_done, picked}
+use Rattle.scheduler.specs.Rounds.{IsRoundPast, PickedPast, PicksPast, RoundsPast, is_done, picked}
 use Rattle.scheduler.specs.Rounds.{picked_answer}
 use Rattle.scheduler.proofs.Picking.{collector_done}
 use Rattle.debugger.specs.Breakpoints.{Breakpoints, first_at, is_same_place, least_at}

@@ -49,6 +49,7 @@ pub mod Layouts
 mod LandingLemmas
 pub mod LeapLemmas
 pub mod LeavingLemmas
+pub mod LeftAlone
 pub mod CallLandings
 pub mod CalleeLemmas
 pub mod ListPlaces

@@ -11,6 +11,7 @@ use Rattle.model.specs.declared.instructions.Conversion.TheVariants as conversio
 use Rattle.model.specs.declared.instructions.Identity.TheVariants as identity
 use Rattle.model.specs.declared.instructions.Increment.TheVariants as increment
 use Rattle.model.specs.declared.instructions.Local.TheVariants as «local»
+use Rattle.model.specs.declared.instructions.Instruction.TheVariants as instruction
 use Rattle.model.specs.declared.instructions.LocalAccess.{LocalAccess}
 use Rattle.model.specs.declared.instructions.LocalAccess.TheVariants as access
 use Rattle.model.specs.declared.instructions.NumberKind.{NumberKind}
@@ -27,6 +28,7 @@ use Rattle.model.specs.declared.turns.Abrupt.{Abrupt}
 use Rattle.model.specs.declared.turns.Abrupt.TheVariants.{Fault as Faulted}
 use Rattle.model.specs.declared.turns.Fault.{Fault}
 use Rattle.model.specs.declared.turns.Fault.TheVariants.{StackFull}
+use Rattle.model.specs.Switches.{Lookup, Table}
 use Rattle.model.specs.Arithmetic.{conversion_result, operator_result, width_of}
 use Rattle.model.specs.Frames.{Frame, Moved, as_int, int_on, push_all, ref_on, replaced, replaced_if_room, two_ints_on}
 use Rattle.model.specs.Frames.{two_longs_on, two_refs_on}
@@ -40,9 +42,12 @@ use Rattle.model.specs.Table.Numbers.{binary_on, compared_on, converted_on, nega
 use Rattle.model.specs.Table.Numbers.{number_value, operand_of, operands_of, operated, source_kind, target_kind}
 use Rattle.model.specs.Table.Stacks.{doubled_on, group_on, groups_on, inserted_on, popped_on, rearranged, swapped_on}
 use Rattle.model.specs.Table.Stacks.Units.{One, Two}
+use Rattle.model.specs.Table.Next.{Listed}
+use Rattle.model.specs.Table.Switches.{lookup_switched_on, table_switched_on}
 use Rattle.linking.specs.declared.operations.Operation.{Operation}
 use Rattle.linking.specs.declared.operations.Operation.TheVariants as operation
 use Rattle.plain_steps.specs.PlainMoves.{plain_move}
+use Rattle.instructions.specs.Aside.{aside_move}
 
 abbrev pub IsInMethod : Frame → Frame → Type 0
 IsInMethod f g = (g.method ≡ f.method) × (g.mark ≡ f.mark)
@@ -145,6 +150,21 @@ module _ (next : ℕ) (f : Frame) where
   rearranged-stays stack.Dup2X1 = inserted-stays (groups_on Two One f.stack)
   rearranged-stays stack.Dup2X2 = inserted-stays (groups_on Two Two f.stack)
   rearranged-stays stack.Swap = swapped-stays (groups_on One One f.stack)
+
+  switched-stays : (table : Table ℕ) (r : Result ℤ Fault) → Stays (table_switched_on table f r)
+  switched-stays table (Err e) = tt
+  switched-stays table (Ok z) = (refl, refl)
+
+  looked_up-stays : (lookup : Lookup ℕ) (r : Result ℤ Fault) → Stays (lookup_switched_on lookup f r)
+  looked_up-stays lookup (Err e) = tt
+  looked_up-stays lookup (Ok z) = (refl, refl)
+
+  -- one that stands aside
+  pub aside-stays : (instruction : Listed) → IfSome (aside_move next instruction f) Stays
+  aside-stays (instruction.Constant c) = pushed-stays c
+  aside-stays (instruction.TableSwitch table) = switched-stays table (int_on f.stack)
+  aside-stays (instruction.LookupSwitch lookup) = looked_up-stays lookup (int_on f.stack)
+  aside-stays _ = tt
 
   -- an operation that changes the running frame alone
   pub moved-stays : (op : Operation) → IfSome (plain_move next op f) Stays

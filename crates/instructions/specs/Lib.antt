@@ -20,6 +20,7 @@ pub mod InitialisingByNumbers
 pub mod Leaving
 pub mod Loaded
 pub mod Landings
+pub mod ListsShown
 pub mod LoneRounds
 pub mod MethodsByNumber
 pub mod MonitorsByNumbers

@@ -16,6 +16,7 @@ ghost use Rattle.instructions.specs.Heaps.{words_held, written};
 
 mod entering;
 mod filling;
+mod listing;
 mod looking;
 mod monitoring;
 mod showing;

@@ -16,7 +16,7 @@
 //! | throwing, unwinding, landing | exceptions, where a throwable lands, and that it does |
 //! | initialising, claims, opening | class initialisation, and how a program opens |
 //! | heaps, with the files of heaps/ | objects in cells, the account of the cells, the write barrier |
-//! | state/classes, state/objects, state/showing, state/threads, held, names | what an observer is told |
+//! | state/classes, state/listing, state/objects, state/showing, state/threads, held, lists, names | what an observer is told |
 //!
 //! The quick ways make many turns in one call, or one turn by one look at its step. Each answers that it made them, or
 //! that it made none and changed nothing; then the general way is asked:
@@ -57,6 +57,7 @@ mod invoking;
 pub mod kinds;
 mod landing;
 mod leaving;
+pub mod lists;
 pub mod lone_rounds;
 mod machines;
 mod methods;

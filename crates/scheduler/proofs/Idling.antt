@@ -1,14 +1,27 @@
--- Threads that are known not to be ready on cells aren't ready in the ideal run, and the other way round.
-use Rattle.std.proofs.Common.{◌≡◌, ◌∙◌, ℕ, sym}
+-- Threads that are known not to be ready on cells aren't ready in the ideal run, and the other way round; nor are they
+-- after turns of the collector.
+use Rattle.std.proofs.Common.{◌≡◌, ◌∙◌, ◌+◌, ℕ, zero, suc, List, Option, Some, None, ap, refl, sym}
+use Rattle.exploration.proofs.RowCounts.{ready_at}
+use Rattle.model.specs.declared.journals.Row.{Row}
+use Rattle.model.specs.declared.turns.Actor.TheVariants.{Collector}
+use Rattle.model.specs.declared.turns.Turn.{Turn}
+use Rattle.model.specs.ClassListings.{ClassListing}
+use Rattle.model.specs.Collector.Runs.{advance_if, moved_by}
+use Rattle.model.specs.Effects.Choice.{NewObject}
 use Rattle.model.specs.Journals.{JournalValue}
-use Rattle.model.specs.Machines.{Recorded, machine_of}
+use Rattle.model.specs.Machines.{Machine, Recorded, after_turn_by, machine_of, row_for, row_unless_refused, with_row}
 use Rattle.model.specs.Observers.{ideal}
 use Rattle.model.specs.Ready.{is_ready}
+use Rattle.model.specs.Turns.{refusal, unless_refused}
+use Rattle.model.specs.Worlds.{World}
+use Rattle.model.proofs.CollectorLemmas.Running.{machine_of-turn}
 use Rattle.join.proofs.ReadingBack.{reads_back}
 use Rattle.instructions.specs.declared.idle.Idle.{Idle}
 use Rattle.instructions.specs.Idle.{AreIdle}
 use Rattle.instructions.specs.Loaded.{Loaded}
+use Rattle.scheduler.specs.Rounds.{collections}
 use Rattle.scheduler.specs.Worlds.{IsOf, recorded}
+use Rattle.scheduler.proofs.Picking.{refused-world}
 
 module _ (s : Loaded) (j : JournalValue) (k : ℕ) (is : IsOf s j k) (idle : Idle) where
   abbrev v : Recorded
@@ -22,3 +35,46 @@ module _ (s : Loaded) (j : JournalValue) (k : ℕ) (is : IsOf s j k) (idle : Idl
 
   pub idle-recorded : AreIdle s.program s.machine.world idle → AreIdle s.program (ideal v) idle
   idle-recorded known t e = sym (ready_is t) ∙ known t e
+
+-- ---- turns of the collector
+
+-- but for the count of rows a world is as it was
+counted_ready : (program : List ClassListing) (w : World) (n t : ℕ) →
+    is_ready program (let counted : World = record w { rows = n } in counted) t ≡ is_ready program w t
+counted_ready program w n t =
+    let counted : World = record w { rows = n } in
+    sym (ready_at program counted t) ∙ ready_at program w t
+
+module _ (v : Recorded) (worker : ℕ) where
+  collected_ready : (t : ℕ) → is_ready v.program (ideal (after_turn_by v Collector worker)) t
+      ≡ is_ready v.program (ideal v) t
+  unfolding moved_by
+  collected_ready t = by (refusal v.program v.journal.limits (ideal v) Collector) refl
+    where
+      by : (o : Option Turn) → refusal v.program v.journal.limits (ideal v) Collector ≡ o
+          → is_ready v.program (ideal (after_turn_by v Collector worker)) t ≡ is_ready v.program (ideal v) t
+      by (Some r) e = ap (λ (x : Recorded). is_ready v.program (ideal x) t) (refused-world v Collector worker r e)
+      by None e =
+          let m = machine_of v in
+          ap (λ (x : Machine). is_ready v.program x.world t) (machine_of-turn v Collector worker)
+          ∙ ap (λ (o : Option Turn). is_ready v.program (advance_if v.program v.journal.shape v.journal.limits m
+          (row_unless_refused v.program m Collector 0 o)).world t) e
+          ∙ ap (λ (o : Option Turn). is_ready v.program (unless_refused v.program m.world Collector NewObject o) t) e
+          ∙ counted_ready v.program m.world (m.world.rows + 1) t
+
+  program_added : (o : Option Row) → (with_row v o).program ≡ v.program
+  program_added None = refl
+  program_added (Some row) = refl
+
+  program_after : (after_turn_by v Collector worker).program ≡ v.program
+  unfolding after_turn_by
+  program_after = program_added (row_for v Collector worker)
+
+-- they leave those that aren't ready so
+pub idle-collected : (v : Recorded) (worker n : ℕ) (idle : Idle) → AreIdle v.program (ideal v) idle →
+    let w = collections v worker n in AreIdle w.program (ideal w) idle
+idle-collected v worker zero idle known = known
+idle-collected v worker (suc n) idle known =
+    let after = after_turn_by v Collector worker in
+    idle-collected after worker n idle (λ t e. ap (λ program. is_ready program (ideal after) t) (program_after v worker)
+    ∙ collected_ready v worker t ∙ known t e)

@@ -14,6 +14,7 @@ use Rattle.model.specs.Worlds.{Thread, frames_of}
 use Rattle.model.specs.Worlds.Thread.{Live, Ended}
 use Rattle.join.specs.ReadBack.{birth_read}
 use Rattle.instructions.specs.HeldOnCells.{helds_from}
+use Rattle.instructions.specs.ListsShown.{lists_of, lists_on}
 use Rattle.instructions.specs.Loaded.{Loaded}
 use Rattle.join.specs.TurnsOnCells.{CellMachine}
 use Rattle.scheduler.specs.OnCells.{cells_of}
@@ -59,6 +60,9 @@ module _ (s : Loaded) (j : JournalValue) (k : ℕ) (is : IsOf s j k) where
 
   pub cell_count_is : length s.machine.account.cells ≡ length (machine_of (recorded s j)).account.cells
   cell_count_is = ap (λ (a : Account). length a.cells) (back s j k is).account
+
+  pub lists_are : lists_on s.machine ≡ lists_of (machine_of (recorded s j)).account
+  lists_are = ap (λ (a : Account). lists_of a) (back s j k is).account
 
   pub helds_is : helds_from s.machine 0 s.machine.account.cells
       ≡ map (shown_in (machine_of (recorded s j))) (machine_of (recorded s j)).account.cells

@@ -6,9 +6,11 @@ use Rattle.model.specs.Machines.{Recorded}
 use Rattle.model.specs.Observers.{ideal, is_running, status_of}
 use Rattle.instructions.specs.declared.lone_rounds.Rounds.{Rounds}
 use Rattle.instructions.specs.declared.stops.Stops.{Stops}
-use Rattle.scheduler.specs.Rounds.{IsRoundPast, LeadsOn, LeadsPast, PickedPast, PicksPast, RoundsPast, collections}
-use Rattle.scheduler.specs.Rounds.{is_done, picked, picked_answer, swept}
-use Rattle.scheduler.proofs.Bursts.{still-same, workers-picked}
+use Rattle.scheduler.specs.Rounds.{IsRoundPast, LeadsInto, LeadsOn, LeadsPast, PickedIf, PickedPast, PicksPast}
+use Rattle.scheduler.specs.Rounds.{RoundsPast, after_round, after_rounds, collections, is_done, picked, picked_answer}
+use Rattle.scheduler.specs.Rounds.{rounds_answer, rounds_left, swept}
+use Rattle.scheduler.proofs.Bursts.{leads-none, one-further, still-same, workers-picked}
+use Rattle.scheduler.proofs.RoundsLeft.{answer-first, left-first, rounds-first}
 
 -- ---- turns
 
@@ -59,3 +61,42 @@ pub led-nowhere : (stops : Stops) (v w : Recorded) (worker gc : ℕ) (rounds : R
 led-nowhere stops v w worker gc rounds none whole led =
     subst (λ b. PickedPast stops led.0 worker b w) whole led.2
     ∙ subst (λ n. RoundsPast stops v worker gc n led.0) none led.1
+
+-- ---- rounds that begin at no stop are rounds
+
+-- one more, whose thread's turn is done
+pub round-more : (v u w : Recorded) (worker gc n : ℕ) → LeadsOn v worker gc n u
+    → is_done (picked_answer u worker) ≡ true → w ≡ after_round u worker gc → LeadsOn v worker gc (suc n) w
+round-more v u w worker gc n on done same = record {
+  world = λ more.
+      ap (after_rounds v worker gc) (one-further n more) ∙ on.world (suc more)
+      ∙ rounds-first u worker gc (suc more) more refl true done
+      ∙ ap (λ (x : Recorded). after_rounds x worker gc more) (sym same);
+  answer = λ more.
+      ap (rounds_answer v worker gc) (one-further n more) ∙ on.answer (suc more)
+      ∙ answer-first u worker gc (suc more) more refl true done
+      ∙ ap (λ (x : Recorded). rounds_answer x worker gc more) (sym same);
+  left = λ more.
+      ap (rounds_left v worker gc) (one-further n more) ∙ on.left (suc more)
+      ∙ left-first u worker gc (suc more) more refl true done
+      ∙ ap (λ (x : Recorded). rounds_left x worker gc more) (sym same);
+}
+
+on-past : (stops : Stops) (v w : Recorded) (worker gc n : ℕ) → RoundsPast stops v worker gc n w
+    → LeadsOn v worker gc n w
+on-past stops v w worker gc zero same = subst (LeadsOn v worker gc 0) (sym same) (leads-none v worker gc)
+on-past stops v w worker gc (suc n) rounds =
+    round-more v rounds.0 w worker gc n (on-past stops v rounds.0 worker gc n rounds.1) rounds.2.done rounds.2.after
+
+if-past : (stops : Stops) (v w : Recorded) (worker : ℕ) (made : Bool) → PickedPast stops v worker made w
+    → PickedIf v worker made w
+if-past stops v w worker true turn = (turn.1, turn.2)
+if-past stops v w worker false turn = turn
+
+pub into-past : (stops : Stops) (v w : Recorded) (worker gc : ℕ) (rounds : Rounds)
+    → LeadsPast stops v worker gc rounds w → LeadsInto v worker gc rounds w
+into-past stops v w worker gc rounds led = (
+  led.0,
+  on-past stops v led.0 worker gc rounds.made led.1,
+  if-past stops led.0 w worker rounds.begun led.2,
+)

@@ -17,7 +17,8 @@ use Rattle.model.specs.declared.turns.Turn.TheVariants.{Done, NotReady, OutputFu
 use Rattle.model.specs.Collector.Runs.{advance_if, moved_by}
 use Rattle.model.specs.Machines.{Machine, Recorded, after_turn_by, answer_to, answer_unless_refused, machine_of}
 use Rattle.model.specs.Machines.{reported_of, row_for, row_unless_refused, with_row}
-use Rattle.model.specs.Observers.{after_last, cyclic_from, ideal, is_running, pick_of, status_by, status_of}
+use Rattle.model.specs.Observers.{after_last, cyclic_from, ideal, is_running, pick_of, status_by, status_in}
+use Rattle.model.specs.Observers.{status_of}
 use Rattle.model.specs.Ready.{is_ready, some_is_ready, some_lives, thread_numbers}
 use Rattle.model.specs.Table.Next.{completion}
 use Rattle.model.specs.Effects.Choice.{NewObject}
@@ -77,12 +78,19 @@ running_by None false false f l = refl
 running_by (Some fault) lives true f l = f refl
 running_by (Some fault) lives false f l = refl
 
+pub running_ready : (program : List ClassListing) (w : World) → is_running (status_in program w)
+    ≡ some_is_ready program w
+running_ready program w =
+    running_by w.fault (some_lives w) (some_is_ready program w)
+    (any_unfaulted program w (thread_numbers w)) (any_lives program w (thread_numbers w))
+
 pub running_picks : (v : Recorded) → is_running (status_of v) ≡ is_some (pick_of v)
-running_picks v =
-    let w = ideal v in
-    running_by w.fault (some_lives w) (some_is_ready v.program w)
-    (any_unfaulted v.program w (thread_numbers w)) (any_lives v.program w (thread_numbers w))
-    ∙ sym (some_picked v)
+running_picks v = running_ready v.program (ideal v) ∙ sym (some_picked v)
+
+-- from whichever thread on one is looked for
+pub running_from : (program : List ClassListing) (w : World) (n : ℕ)
+    → is_some (find (is_ready program w) (cyclic_from n (thread_numbers w))) ≡ is_running (status_in program w)
+running_from program w n = some_turned (is_ready program w) n (thread_numbers w) ∙ sym (running_ready program w)
 
 -- ---- where it doesn't run nothing is made
 

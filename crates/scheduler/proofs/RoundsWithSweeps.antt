@@ -26,9 +26,10 @@ use Rattle.scheduler.specs.Rounds.{IsRoundPast, LeadsInto, LeadsOn, LeadsPast, P
 use Rattle.scheduler.specs.Rounds.{RoundsPast, after_round, after_rounds, collections, done_by, is_done, picked}
 use Rattle.scheduler.specs.Rounds.{picked_answer, rounds_answer, rounds_left, swept}
 use Rattle.scheduler.specs.Worlds.{IsOf, recorded}
-use Rattle.scheduler.proofs.Bursts.{answer-left, leads-none, left-left, one-further, world-left}
+use Rattle.scheduler.proofs.Bursts.{answer-left, leads-none, left-left, world-left}
 use Rattle.scheduler.proofs.FirstTurns.{first_done, first_noted, first_past, first_picked}
 use Rattle.scheduler.proofs.Noting.{after_is, back, noted_is, refusal_is}
+use Rattle.scheduler.proofs.PastStops.{round-more}
 use Rattle.scheduler.proofs.RoundsLeft.{answer-first, left-first, round-swept, rounds-first}
 
 -- ---- turns of the collector
@@ -178,20 +179,7 @@ module _ (s : Loaded) (j : JournalValue) (k : ℕ) (is : IsOf s j k) (stops : St
       let done = round_done x jn kn leads.is stops worker gc outcome after round in
       record {
         is = (round_swept x jn kn leads.is stops worker gc outcome after round).is;
-        on = record {
-          world = λ more.
-              ap (after_rounds v worker gc) (one-further n more) ∙ leads.on.world (suc more)
-              ∙ rounds-first u worker gc (suc more) more refl true done
-              ∙ ap (λ (w : Recorded). after_rounds w worker gc more) (sym same);
-          answer = λ more.
-              ap (rounds_answer v worker gc) (one-further n more) ∙ leads.on.answer (suc more)
-              ∙ answer-first u worker gc (suc more) more refl true done
-              ∙ ap (λ (w : Recorded). rounds_answer w worker gc more) (sym same);
-          left = λ more.
-              ap (rounds_left v worker gc) (one-further n more) ∙ leads.on.left (suc more)
-              ∙ left-first u worker gc (suc more) more refl true done
-              ∙ ap (λ (w : Recorded). rounds_left w worker gc more) (sym same);
-        };
+        on = round-more v u w worker gc n leads.on done same;
         past = (u, leads.past, round_past x jn kn leads.is stops worker gc outcome after round);
       }
 

@@ -1,14 +1,16 @@
 //! Rounds: the turns of the threads that are picked, and the collector's between them.
 ghost use Rattle.std.specs.Prelude.{◌≡◌, ◌<◌, ◌≤◌, ◌+◌, nat_le, true};
 ghost use Rattle.model.specs.Observers.{ideal, is_running, status_of};
-ghost use Rattle.scheduler.specs.Rounds.{LeadsPast, PickedPast, after_round, after_rounds, collections, is_done};
+ghost use Rattle.instructions.specs.Idle.{AreIdle};
+ghost use Rattle.scheduler.specs.Rounds.{LeadsInto, LeadsPast, PickedPast, after_round, after_rounds, collections, is_done};
 ghost use Rattle.scheduler.specs.Rounds.{picked, picked_answer, rounds_answer, rounds_left, swept};
 
 use crate::worlds::World;
+use instructions::idle::Idle;
 use instructions::lone_rounds::Rounds;
 use instructions::noted_rounds::Pace;
 use instructions::stops::{Stops, no_stops};
-use model::turns::{Actor, Status, Turn};
+use model::turns::{Actor, Turn};
 
 /// Whether a turn that answers this was done.
 pub fn is_done(answer: Turn) -> bool
@@ -65,7 +67,7 @@ impl World {
         ensures world { self.new ≡ picked self.old worker }
         ensures answer { result ≡ picked_answer self.old worker }
     {
-        if self.rounds_in_turn(worker, no_stops(), 1) > 0 {
+        if self.rounds_in_turn(worker, no_stops(), &mut Idle::none(), 1) > 0 {
             Turn::Done
         } else {
             self.turn_by_look(worker)
@@ -102,9 +104,8 @@ impl World {
         ensures world { self.new ≡ swept self.old worker gc }
         ensures workers { self.new.journal.workers ≡ self.old.journal.workers }
     {
-        match self.status() {
-            Status::Running => self.collect(worker, gc),
-            Status::Finished | Status::Stuck | Status::Faulted => {}
+        if self.runs() {
+            self.collect(worker, gc);
         }
     }
 
@@ -146,6 +147,25 @@ impl World {
         }
     }
 
+    /// Rounds by a worker, so many at most: whole ones, in which each turn is done, and of one more, maybe, the thread's
+    /// turn alone. Where no more were made, there may be one all the same.
+    // Many in one call where one thread was ever started, and else one by one.
+    fn some_rounds(&mut self, worker: u8, gc: u32, most: u32) -> Rounds
+        requires { worker < self.old.journal.workers }
+        ensures rounds { LeadsInto self.old worker gc result self.new }
+        ensures most { result.made ≤ most }
+        ensures begun { result.begun ≡ true → result.made < most }
+        ensures workers { self.new.journal.workers ≡ self.old.journal.workers }
+    {
+        let stops = no_stops();
+        let pace = Pace { worker, gc, stops };
+        if self.thread_count() > 1 {
+            self.rounds_one_by_one(pace, most)
+        } else {
+            self.rounds_at_pace(pace, most)
+        }
+    }
+
     /// So many rounds, each with so many turns of the collector.
     // Many in one call where that can be, and else one by one.
     fn rounds_and_sweeps(&mut self, worker: u8, n: u32, gc: u32) -> RoundsMade
@@ -156,7 +176,7 @@ impl World {
     {
         let mut left = n;
         'rounds: loop {
-            let rounds = self.rounds_and_sweeps_plainly(worker, gc, left);
+            let rounds = self.some_rounds(worker, gc, left);
             left -= rounds.made;
             if left == 0 {
                 let answer = Turn::Done;
@@ -176,15 +196,19 @@ impl World {
     }
 
     /// The turn of the thread that is picked, made by a worker, where it stands at no stop and one look at its step
-    /// serves. Answers whether it was made: it is done then. If not, nothing changes.
-    fn turn_past(&mut self, worker: u8, stops: Stops<'_>) -> bool
-        requires { worker < self.old.journal.workers }
+    /// serves. Answers whether it was made: it is done then. If not, nothing changes. Threads that are known not to be
+    /// ready aren't asked.
+    fn turn_past(&mut self, worker: u8, stops: Stops<'_>, idle: &mut Idle) -> bool
+        requires worker { worker < self.old.journal.workers }
+        requires idle { AreIdle self.old.program (ideal self.old) idle.old }
         ensures turn { PickedPast stops.entry self.old worker result self.new }
+        ensures idle { AreIdle self.new.program (ideal self.new) idle.new }
         ensures workers { self.new.journal.workers ≡ self.old.journal.workers }
     {
-        if self.rounds_in_turn(worker, stops, 1) > 0 {
+        if self.rounds_in_turn(worker, stops, idle, 1) > 0 {
             return true;
         }
+        *idle = Idle::none();
         self.turn_of_first(worker, stops)
     }
 
@@ -201,10 +225,7 @@ impl World {
         ensures runs { result ≡ true → is_running (status_of self.now) ≡ true }
         ensures room { result ≡ true → (ideal self.now).rows + gc ≤ self.now.journal.limits.steps }
     {
-        match self.status() {
-            Status::Running => self.has_room(gc),
-            Status::Finished | Status::Stuck | Status::Faulted => false,
-        }
+        self.runs() && self.has_room(gc)
     }
 
     /// Rounds at a pace, one after another and so many at most, whose thread's turn is made as `turn_past` makes it. Of
@@ -214,9 +235,11 @@ impl World {
         ensures rounds { LeadsPast pace.entry.stops self.old pace.entry.worker pace.entry.gc result self.new }
         ensures most { result.made ≤ most }
         ensures begun { result.begun ≡ true → result.made < most }
+        ensures workers { self.new.journal.workers ≡ self.old.journal.workers }
     {
+        let mut idle = Idle::none();
         for made in 0..most {
-            if !self.turn_past(pace.worker, pace.stops) {
+            if !self.turn_past(pace.worker, pace.stops, &mut idle) {
                 return Rounds { made, begun: false };
             }
             if !self.may_sweep(pace.gc) {

@@ -3,11 +3,13 @@ ghost use Rattle.std.specs.Prelude.{◌≡◌, IfOk, length, map};
 ghost use Rattle.model.specs.Machines.{machine_of};
 ghost use Rattle.model.specs.Observers.{ideal};
 ghost use Rattle.instructions.specs.HeldOnCells.{helds_from};
+ghost use Rattle.instructions.specs.ListsShown.{lists_of};
 ghost use Rattle.scheduler.specs.OnCells.{cells_of};
 ghost use Rattle.scheduler.specs.Showing.{shown_in};
 
 use super::World;
 use instructions::held::HeldView;
+use instructions::lists::ListsView;
 use model::turns::ClassState;
 use model::views::FieldView;
 use std::alloc::AllocError;
@@ -51,5 +53,13 @@ impl World {
             ≡ map (shown_in (machine_of self.now)) (machine_of self.now).account.cells) }
     {
         self.state.helds()
+    }
+
+    /// The births of the grey list, the next to be blackened first, and the numbers of the free cells of each size, the
+    /// next to be taken first (CACM 21(11)). `AllocError` where memory runs out.
+    pub fn lists(&self) -> Result<ListsView, AllocError>
+        ensures { IfOk result (λ lists. lists ≡ lists_of (machine_of self.now).account) }
+    {
+        self.state.lists()
     }
 }

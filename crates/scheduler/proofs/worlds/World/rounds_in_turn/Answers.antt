@@ -1,7 +1,5 @@
 use Rattle.std.proofs.Common.{◌≡◌, ◌∙◌, ◌+◌, ap, arith, refl, subst, suc}
 use Rattle.model.specs.Machines.{Recorded}
-use Rattle.model.specs.Observers.{ideal}
-use Rattle.instructions.proofs.IdleLemmas.{none-idle}
 use Rattle.scheduler.specs.Rounds.{LeadsOn}
 use Rattle.scheduler.proofs.Bursts.{leads-more, leads-none, workers-picked}
 use Rattle.scheduler.proofs.PastStops.{first-past}
@@ -20,7 +18,7 @@ loop-made-preserved c =
           (c.turn_plainly.ensures.done c.if-not-turn_plainly.false));
       past = λ _. first-past c.args.stops c.args.self.now at.self w at.made at.invariant.rounds at.invariant.past
           (c.turn_plainly.ensures.past c.if-not-turn_plainly.false);
-      idle = c.turn_plainly.ensures.idle c.if-not-turn_plainly.false;
+      idle = c.turn_plainly.ensures.idle;
     }
 
 pub loop-made-init : goal.loop-made-init
@@ -30,5 +28,5 @@ loop-made-init c =
       workers = refl;
       rounds = leads-none v c.args.worker 0;
       past = λ some. absurd (omega (arith, some));
-      idle = none-idle v.program (ideal v) c.none-idle.result c.none-idle.ensures;
+      idle = c.requires.idle;
     }

@@ -1,10 +1,21 @@
-use Rattle.std.proofs.Common.{◌≡◌, ◌∙◌, ◌+◌, ℕ, arith, refl, subst, suc}
+use Rattle.std.proofs.Common.{◌≡◌, ◌∙◌, ◌+◌, ℕ, arith, refl, subst, suc, sym}
+use Rattle.model.specs.Machines.{Recorded}
+use Rattle.model.specs.Observers.{ideal}
+use Rattle.instructions.specs.Idle.{AreIdle}
+use Rattle.instructions.proofs.IdleLemmas.{none-idle}
 use Rattle.scheduler.specs.Rounds.{PickedPast, RoundsPast}
+use Rattle.scheduler.proofs.Idling.{idle-collected}
 use Rattle.scheduler.proofs.PastStops.{round-past}
 use Rattle.scheduler.proofs.worlds.World.rounds_one_by_one.Goals as goal
 
 pub loop-made-init : goal.loop-made-init
-loop-made-init c = record { workers = refl; rounds = refl }
+loop-made-init c =
+    let v = c.args.self.now in
+    record {
+      workers = refl;
+      rounds = refl;
+      idle = none-idle v.program (ideal v) c.none-idle.result c.none-idle.ensures;
+    }
 
 pub loop-made-preserved : goal.loop-made-preserved
 loop-made-preserved c =
@@ -22,6 +33,8 @@ loop-made-preserved c =
       workers = c.collect.ensures.workers ∙ c.turn_past.ensures.workers ∙ at.invariant.workers;
       rounds = subst (λ (n : ℕ). RoundsPast p.stops c.args.self.now p.worker p.gc n new) more
           (at.self, at.invariant.rounds, round);
+      idle = subst (λ (v : Recorded). AreIdle v.program (ideal v) c.turn_past.new.idle) (sym c.collect.ensures.world)
+          (idle-collected mid p.worker p.gc c.turn_past.new.idle c.turn_past.ensures.idle);
     }
 
 pub returns-then-not-turn_past-clause-rounds : goal.returns-then-not-turn_past-clause-rounds

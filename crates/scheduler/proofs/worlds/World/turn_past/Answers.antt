@@ -1,5 +1,7 @@
 use Rattle.std.proofs.Common.{◌≡◌, ◌∙◌, ap, arith, subst, sym}
 use Rattle.model.specs.Machines.{Recorded}
+use Rattle.model.specs.Observers.{ideal}
+use Rattle.instructions.proofs.IdleLemmas.{none-idle}
 use Rattle.scheduler.specs.Rounds.{PickedPast, is_done}
 use Rattle.scheduler.proofs.Bursts.{made-answer, made-world, still-same}
 use Rattle.scheduler.proofs.PastStops.{picked-past, workers-past}
@@ -34,3 +36,8 @@ returns-clause-workers c =
     (picked-past c.args.stops none.new.self turn.new.self c.args.worker turn.result turn.ensures.made turn.ensures.done
     turn.ensures.past turn.ensures.kept)
     ∙ none.ensures.workers
+
+pub returns-clause-idle : goal.returns-clause-idle
+returns-clause-idle c =
+    let after = c.turn_of_first.new.self in
+    none-idle after.program (ideal after) c.none.result c.none.ensures
