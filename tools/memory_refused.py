@@ -2,6 +2,7 @@
 """Refuses requests for memory, one after another, and looks how `jvm` ends: with status 6 and its one line, or as if nothing was.
 
     tools/memory_refused.py [--jvm PROGRAM] [--all]
+    tools/memory_refused.py --calls [PROGRAM]
 
 The requests of a whole run of a command are counted, and then the command is run twice for each of them:
 
@@ -13,11 +14,18 @@ The requests of a whole run of a command are counted, and then the command is ru
 
 An exploration that has begun is cut off for memory instead, with status 4, having reported outcomes that it reports else. Where threads
 are started, the request of each start ends with `jvm: no thread`; and so does each start that the system refuses. Of commands that begin
-alike only the first is tried from its first request on, but with --all. Those that fail have to be refused in the same way. It wants a C
-compiler, `cc`. The last line is 'N passed, M failed'. For run_examples.py, too, which gets a result for each command.
+alike only the first is tried from its first request on, but with --all. Those that fail have to be refused in the same way.
+
+With --calls, `launch`, `Board::new` and `Hall::new` are tried alone in the same way, by the program of the tests in crates/refused_tests,
+which `rt ci` builds, and `rt test` there. Each ends with its own error of memory.
+
+It wants a C compiler, `cc`. The last line is 'N passed, M failed'. For run_examples.py, too, which gets a result for each command.
 """
 import argparse
+import bisect
+import itertools
 import os
+import re
 import subprocess
 import sys
 import tempfile
@@ -26,9 +34,18 @@ from typing import NamedTuple
 ROOT = os.path.join(os.path.dirname(os.path.abspath(__file__)), "..")
 EXAMPLES = os.path.join(ROOT, "examples")
 BUILT = os.path.join(ROOT, "crates", "jvm", "out", "jvm")
+TESTS = os.path.join(ROOT, "crates", "refused_tests", "out", "refused_tests_tests")
 LACKS, NO_THREAD = (6, b"jvm: memory\n"), (6, b"jvm: no thread\n")
 # how many of the last requests are tried of a command that begins as another one does: those after its program was loaded
 LAST = 160
+
+# the tests of calls, and how each call says that it had no memory
+CALLS = {
+    "launch_alone": r"World\(Memory\)|Load\(Memory\(AllocError\)\)|Source \{ place: [01], error: "
+    r"(Memory|Assembly\(Memory\)|Class\(Memory\)|Text\(TextError \{ line: \d+, fault: Memory \}\)) \}",
+    "board_alone": "Memory",
+    "hall_alone": "Memory",
+}
 
 # a session of the debugger with answers that take memory, and a breakpoint
 SESSION = b"stack 0\nbreak Square.area()I 0\nrun 5\nobject 3\nheap\nstack 0\nclass Square\nx\nstep 0\ngc\ndelete 0\nquit\n"
@@ -244,6 +261,48 @@ def unstarted(command, library, whole):
     return None if ending(command, library, UNSTARTED=command.carriers + 1) == whole else "more threads are started than workers need"
 
 
+def tested(tests, name, library, number, **given):
+    """What a test prints and says with some requests refused, and whether it passes."""
+    how = {"stdout": subprocess.PIPE, "stderr": subprocess.PIPE, "timeout": 60, "check": False}
+    set_ = {**os.environ, "LD_PRELOAD": library, "REFUSED": str(number), **given}
+    done = subprocess.run([tests, f"call_tests::{name}"], env=set_, **how)
+    return done.stdout.decode(), done.stderr.decode(), done.returncode == 0
+
+
+def first_of(tests, name, library):
+    """The number of a call's first request: the least with which, and with all after it refused, the test says that the call begins."""
+
+    def begins(number):
+        return tested(tests, name, library, number, ALL="1")[0].startswith("begun\n")
+
+    most = next(number for number in (1 << n for n in itertools.count()) if begins(number))
+    return bisect.bisect_left(range(most + 1), True, lo=max(1, most // 2), key=begins)
+
+
+def refused_alone(tests, name, library):
+    """How many requests a call makes, and what is wrong with its ends where each is refused in turn, or nothing."""
+    first, lacks = first_of(tests, name, library), re.compile(f"error: ({CALLS[name]})\n")
+    for number in itertools.count(first):
+        _, said, passes = tested(tests, name, library, number, ALL="1")
+        if passes:
+            return number - first, None if number > first else "it makes none"
+        if not lacks.match(said):
+            return number - first, f"with request {number} and all after it refused: {said}"
+        _, said, passes = tested(tests, name, library, number)
+        if not passes and not lacks.match(said):
+            return number - first, f"with request {number} refused: {said}"
+
+
+def tried_calls(tests, room):
+    """What was tried of calls alone, each with what is wrong, or nothing."""
+    library, why = refuser(room)
+    if not os.path.exists(tests):
+        why = f"there is no {tests}: rt test in crates/refused_tests builds it"
+    for name in CALLS:
+        made, wrong = (0, why) if why else refused_alone(tests, name, library)
+        yield f"each request for memory refused: {name}, {made} requests", wrong
+
+
 def tried_refusals(jvm, room, whole=False):
     """What was tried of refused requests, each with what is wrong, or nothing."""
     library, why = refuser(room)
@@ -257,13 +316,15 @@ def main():
     words = argparse.ArgumentParser(description=__doc__.split("\n", maxsplit=1)[0])
     words.add_argument("--jvm", default=BUILT)
     words.add_argument("--all", action="store_true")
+    words.add_argument("--calls", nargs="?", const=TESTS, metavar="PROGRAM")
     given = words.parse_args()
     passed = failed = 0
     with tempfile.TemporaryDirectory() as room:
-        for name, why in tried_refusals(os.path.abspath(given.jvm), room, given.all):
+        tried = tried_calls(os.path.abspath(given.calls), room) if given.calls else tried_refusals(os.path.abspath(given.jvm), room, given.all)
+        for name, why in tried:
             passed, failed = passed + (not why), failed + bool(why)
-            if why:
-                print(f"{name}: {why}", flush=True)
+            if why or given.calls:
+                print(f"{name}: {why or 'as it should'}", flush=True)
     print(f"{passed} passed, {failed} failed")
     return 1 if failed else 0
 
