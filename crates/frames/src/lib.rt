@@ -51,10 +51,9 @@
 //!
 //! Inside, an activation record says where a frame's locals begin in the array; its stack stands after them, a value
 //! in one unit each, while the units that the values take are counted beside them. So each call takes the time of the
-//! values that it moves. The running frame's record stands apart from those below it, in fields of its own: where
-//! `Frames` is a variable of a loop that only makes calls that are inlined, these fields stay in the processor's
-//! registers. The records below it stay in their places when they are left, so that a call writes over them and takes
-//! no memory.
+//! values that it moves. The running frame's record stands apart from those below it, in fields of its own, so nobody
+//! has to ask which one runs. The records below it stay in their places when they are left, so that a call writes over
+//! them and takes no memory. All of it stands behind one reference, so that frames are moved as one word.
 #![tactic(auto)]
 
 mod activations;

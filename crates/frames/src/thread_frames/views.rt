@@ -13,10 +13,11 @@ impl Frames {
     pub fn views(&self) -> Result<Vec<FrameView>, AllocError>
         ensures { IfOk result (λ views. views.items ≡ self.now) }
     {
-        let alloc = self.activations.allocator();
-        let mut views = Vec::with_capacity(alloc, self.activations.len())?;
-        for depth in 0..self.activations.len() {
-            views.push(view_of(&self.units, self.activations.at(depth))?)?;
+        let parts = &*self.parts;
+        let alloc = parts.activations.allocator();
+        let mut views = Vec::with_capacity(alloc, parts.activations.len())?;
+        for depth in 0..parts.activations.len() {
+            views.push(view_of(&parts.units, parts.activations.at(depth))?)?;
         }
         Ok(views)
     }

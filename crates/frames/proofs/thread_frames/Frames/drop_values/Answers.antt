@@ -6,7 +6,9 @@ use Rattle.frames.proofs.thread_frames.Frames.drop_values.Goals as goal
 
 pub set_stack-requires-clause-fits : goal.set_stack-requires-clause-fits
 set_stack-requires-clause-fits c =
-    let o = opened _ _ _ _ _ c.self.invariant c.self.view_is c.requires.some c.running-running.ensures in
+    let sound = rw (← c.deref_mut-parts.ensures.value) at c.self.invariant in
+    let view = rw (← c.deref_mut-parts.ensures.value) at c.self.view_is in
+    let o = opened _ _ _ _ _ sound view c.requires.some c.running-running.ensures in
     let running = c.running-running.result in
     let values = running.values - c.args.count in
     let taken = running.taken - c.args.units in
@@ -16,17 +18,23 @@ set_stack-requires-clause-fits c =
 
 pub overflow_sub-values : goal.overflow_sub-values
 overflow_sub-values c =
-    let o = opened _ _ _ _ _ c.self.invariant c.self.view_is c.requires.some c.running-running.ensures in
+    let sound = rw (← c.deref_mut-parts.ensures.value) at c.self.invariant in
+    let view = rw (← c.deref_mut-parts.ensures.value) at c.self.view_is in
+    let o = opened _ _ _ _ _ sound view c.requires.some c.running-running.ensures in
     (drops o _ _ c.requires.there c.requires.sized).0
 
 pub overflow_sub-running : goal.overflow_sub-running
 overflow_sub-running c =
-    let o = opened _ _ _ _ _ c.self.invariant c.self.view_is c.requires.some c.running-running.ensures in
+    let sound = rw (← c.deref_mut-parts.ensures.value) at c.self.invariant in
+    let view = rw (← c.deref_mut-parts.ensures.value) at c.self.view_is in
+    let o = opened _ _ _ _ _ sound view c.requires.some c.running-running.ensures in
     (drops o _ _ c.requires.there c.requires.sized).1
 
 pub invariant_of-self : goal.invariant_of-self
 invariant_of-self c =
-    let o = opened _ _ _ _ _ c.self.invariant c.self.view_is c.requires.some c.running-running.ensures in
+    let sound = rw (← c.deref_mut-parts.ensures.value) at c.self.invariant in
+    let view = rw (← c.deref_mut-parts.ensures.value) at c.self.view_is in
+    let o = opened _ _ _ _ _ sound view c.requires.some c.running-running.ensures in
     let stands = (drops o _ _ c.requires.there c.requires.sized).3 in
     rw (c.set_stack.ensures, ← c.running-running.ensures)
     (sound_put o _ _ refl refl (record { begins = stands.begins; taken_is = stands.taken_is; fits = stands.fits })
@@ -34,11 +42,15 @@ invariant_of-self c =
 
 pub returns-clause-left : goal.returns-clause-left
 returns-clause-left c =
-    let o = opened _ _ _ _ _ c.self.invariant c.self.view_is c.requires.some c.running-running.ensures in
+    let sound = rw (← c.deref_mut-parts.ensures.value) at c.self.invariant in
+    let view = rw (← c.deref_mut-parts.ensures.value) at c.self.view_is in
+    let o = opened _ _ _ _ _ sound view c.requires.some c.running-running.ensures in
     rw (c.set_stack.ensures, ← c.running-running.ensures)
     (view_drop o _ _ _ (drops o _ _ c.requires.there c.requires.sized).0)
 
 pub returns-clause-room : goal.returns-clause-room
 returns-clause-room c =
-    let o = opened _ _ _ _ _ c.self.invariant c.self.view_is c.requires.some c.running-running.ensures in
+    let sound = rw (← c.deref_mut-parts.ensures.value) at c.self.invariant in
+    let view = rw (← c.deref_mut-parts.ensures.value) at c.self.view_is in
+    let o = opened _ _ _ _ _ sound view c.requires.some c.running-running.ensures in
     (drops o _ _ c.requires.there c.requires.sized).2

@@ -5,9 +5,13 @@ use Rattle.frames.proofs.thread_frames.Frames.frame_at.Goals as goal
 
 pub returns-then-frame-len : goal.returns-then-frame-len
 returns-then-frame-len c =
+    let sound = rw (← c.deref-parts.ensures) at c.self.invariant in
+    let view = rw (← c.deref-parts.ensures) at c.self.view_is in
     let found = sym c.at-activation.ensures in
-    sym (head-some _ _ _ _ _ _ c.self.invariant c.self.view_is found)
+    sym (head-some _ _ _ _ _ _ sound view found)
 
 pub returns-else-frame-len : goal.returns-else-frame-len
-returns-else-frame-len c = sym (head-none _ _ _ _ c.self.view_is (slice_get_past c.self.inside.activations c.args.frame
+returns-else-frame-len c =
+    let view = rw (← c.deref-parts.ensures) at c.self.view_is in
+    sym (head-none _ _ _ _ view (slice_get_past c.deref-parts.result.now.activations c.args.frame
     (omega arith)))

@@ -7,8 +7,10 @@ use Rattle.frames.proofs.thread_frames.Frames.free_units.Goals as goal
 
 pub returns-clause-units : goal.returns-clause-units
 returns-clause-units c =
-    let a = last_of c.self.inside.activations in
-    let o = opened _ _ _ _ a c.self.invariant c.self.view_is c.requires refl in
+    let sound = rw (← c.deref.ensures) at c.self.invariant in
+    let view = rw (← c.deref.ensures) at c.self.view_is in
+    let a = last_of c.deref.result.now.activations in
+    let o = opened _ _ _ _ a sound view c.requires refl in
     let fits = region_fits o in
     let taken = (stands_last o).stands.taken_is in
     let units = ap units_of_all (stack_is o) in
@@ -18,8 +20,10 @@ returns-clause-units c =
 
 pub returns-clause-few : goal.returns-clause-few
 returns-clause-few c =
-    let a = last_of c.self.inside.activations in
-    let o = opened _ _ _ _ a c.self.invariant c.self.view_is c.requires refl in
+    let sound = rw (← c.deref.ensures) at c.self.invariant in
+    let view = rw (← c.deref.ensures) at c.self.view_is in
+    let a = last_of c.deref.result.now.activations in
+    let o = opened _ _ _ _ a sound view c.requires refl in
     let fits = region_fits o in
     let room : (running_frame c.args.self.now).room ≡ a.room = ap (λ (f : Frame). f.room) (running_is o) in
     omega (arith, fits, room)

@@ -6,7 +6,9 @@ use Rattle.frames.proofs.thread_frames.Frames.go_to.Goals as goal
 
 pub set_stack-requires-clause-fits : goal.set_stack-requires-clause-fits
 set_stack-requires-clause-fits c =
-    let o = opened _ _ _ _ _ c.self.invariant c.self.view_is c.requires c.running-running.ensures in
+    let sound = rw (← c.deref_mut-parts.ensures.value) at c.self.invariant in
+    let view = rw (← c.deref_mut-parts.ensures.value) at c.self.view_is in
+    let o = opened _ _ _ _ _ sound view c.requires c.running-running.ensures in
     let running = c.running-running.result in
     subst (λ (last : Activation). Fits (record last { pc = c.args.pc; values = running.values; taken = running.taken }))
     c.running-running.ensures
@@ -14,12 +16,16 @@ set_stack-requires-clause-fits c =
 
 pub invariant_of-self : goal.invariant_of-self
 invariant_of-self c =
-    let o = opened _ _ _ _ _ c.self.invariant c.self.view_is c.requires c.running-running.ensures in
+    let sound = rw (← c.deref_mut-parts.ensures.value) at c.self.invariant in
+    let view = rw (← c.deref_mut-parts.ensures.value) at c.self.view_is in
+    let o = opened _ _ _ _ _ sound view c.requires c.running-running.ensures in
     let stands = (stands_last o).stands in
     rw (c.set_stack.ensures, ← c.running-running.ensures)
     (sound_put o _ _ refl refl (record { begins = refl; taken_is = stands.taken_is; fits = stands.fits }) refl)
 
 pub returns : goal.returns
 returns c =
-    let o = opened _ _ _ _ _ c.self.invariant c.self.view_is c.requires c.running-running.ensures in
+    let sound = rw (← c.deref_mut-parts.ensures.value) at c.self.invariant in
+    let view = rw (← c.deref_mut-parts.ensures.value) at c.self.view_is in
+    let o = opened _ _ _ _ _ sound view c.requires c.running-running.ensures in
     rw (c.set_stack.ensures, ← c.running-running.ensures, running_is o) (view_put o _ _ refl)

@@ -4,11 +4,15 @@ use Rattle.frames.proofs.thread_frames.Frames.locals.Goals as goal
 
 pub returns-clause-count : goal.returns-clause-count
 returns-clause-count c =
-    let o = opened _ _ _ _ _ c.self.invariant c.self.view_is c.requires c.running.ensures in
+    let sound = rw (← c.deref.ensures) at c.self.invariant in
+    let view = rw (← c.deref.ensures) at c.self.view_is in
+    let o = opened _ _ _ _ _ sound view c.requires c.running.ensures in
     sym (length-locals o)
 
 pub returns-clause-few : goal.returns-clause-few
 returns-clause-few c =
-    let o = opened _ _ _ _ _ c.self.invariant c.self.view_is c.requires c.running.ensures in
+    let sound = rw (← c.deref.ensures) at c.self.invariant in
+    let view = rw (← c.deref.ensures) at c.self.view_is in
+    let o = opened _ _ _ _ _ sound view c.requires c.running.ensures in
     let fits = region_fits o in
     omega arith

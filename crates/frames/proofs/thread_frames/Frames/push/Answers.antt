@@ -9,7 +9,9 @@ use Rattle.frames.proofs.thread_frames.Frames.push.Goals as goal
 
 pub set_stack-requires-clause-fits : goal.set_stack-requires-clause-fits
 set_stack-requires-clause-fits c =
-    let o = opened _ _ _ _ _ c.self.invariant c.self.view_is c.requires.some c.running-running.ensures in
+    let sound = rw (← c.deref_mut-parts.ensures.value) at c.self.invariant in
+    let view = rw (← c.deref_mut-parts.ensures.value) at c.self.view_is in
+    let o = opened _ _ _ _ _ sound view c.requires.some c.running-running.ensures in
     let running = c.running-running.result in
     let p = pushes o (entry_of c.args.slot) c.requires.room in
     let values = running.values + 1 in
@@ -20,45 +22,59 @@ set_stack-requires-clause-fits c =
 
 pub overflow_add-top : goal.overflow_add-top
 overflow_add-top c =
-    let o = opened _ _ _ _ _ c.self.invariant c.self.view_is c.requires.some c.running-running.ensures in
+    let sound = rw (← c.deref_mut-parts.ensures.value) at c.self.invariant in
+    let view = rw (← c.deref_mut-parts.ensures.value) at c.self.view_is in
+    let o = opened _ _ _ _ _ sound view c.requires.some c.running-running.ensures in
     let fits = region_fits o in
     omega arith
 
 pub overflow_add-top-2 : goal.overflow_add-top-2
 overflow_add-top-2 c =
-    let o = opened _ _ _ _ _ c.self.invariant c.self.view_is c.requires.some c.running-running.ensures in
+    let sound = rw (← c.deref_mut-parts.ensures.value) at c.self.invariant in
+    let view = rw (← c.deref_mut-parts.ensures.value) at c.self.view_is in
+    let o = opened _ _ _ _ _ sound view c.requires.some c.running-running.ensures in
     let fits = region_fits o in
     omega arith
 
 pub overflow_add-running : goal.overflow_add-running
 overflow_add-running c =
-    let o = opened _ _ _ _ _ c.self.invariant c.self.view_is c.requires.some c.running-running.ensures in
+    let sound = rw (← c.deref_mut-parts.ensures.value) at c.self.invariant in
+    let view = rw (← c.deref_mut-parts.ensures.value) at c.self.view_is in
+    let o = opened _ _ _ _ _ sound view c.requires.some c.running-running.ensures in
     let fits = region_fits o in
     omega arith
 
 pub overflow_add-taken : goal.overflow_add-taken
 overflow_add-taken c =
-    let o = opened _ _ _ _ _ c.self.invariant c.self.view_is c.requires.some c.running-running.ensures in
+    let sound = rw (← c.deref_mut-parts.ensures.value) at c.self.invariant in
+    let view = rw (← c.deref_mut-parts.ensures.value) at c.self.view_is in
+    let o = opened _ _ _ _ _ sound view c.requires.some c.running-running.ensures in
     let fits = region_fits o in
     let p = pushes o (entry_of c.args.slot) c.requires.room in
     omega (arith, c.units_in.ensures)
 
 pub put-requires : goal.put-requires
 put-requires c =
-    let o = opened _ _ _ _ _ c.self.invariant c.self.view_is c.requires.some c.running-running.ensures in
+    let sound = rw (← c.deref_mut-parts.ensures.value) at c.self.invariant in
+    let view = rw (← c.deref_mut-parts.ensures.value) at c.self.view_is in
+    let o = opened _ _ _ _ _ sound view c.requires.some c.running-running.ensures in
     let p = pushes o (entry_of c.args.slot) c.requires.room in
     omega arith
 
 pub invariant_of-self : goal.invariant_of-self
 invariant_of-self c =
-    let o = opened _ _ _ _ _ c.self.invariant c.self.view_is c.requires.some c.running-running.ensures in
+    let sound = rw (← c.deref_mut-parts.ensures.value) at c.self.invariant in
+    let view = rw (← c.deref_mut-parts.ensures.value) at c.self.view_is in
+    let o = opened _ _ _ _ _ sound view c.requires.some c.running-running.ensures in
     let p = pushes o (entry_of c.args.slot) c.requires.room in
     rw (c.put.ensures, c.set_stack.ensures, c.units_in.ensures, ← c.running-running.ensures)
     (sound_put o _ _ (length-set _ _ _) (sym (take-set-le _ _ _ _ (omega arith))) p.3 refl)
 
 pub returns : goal.returns
 returns c =
-    let o = opened _ _ _ _ _ c.self.invariant c.self.view_is c.requires.some c.running-running.ensures in
+    let sound = rw (← c.deref_mut-parts.ensures.value) at c.self.invariant in
+    let view = rw (← c.deref_mut-parts.ensures.value) at c.self.view_is in
+    let o = opened _ _ _ _ _ sound view c.requires.some c.running-running.ensures in
     let p = pushes o (entry_of c.args.slot) c.requires.room in
     rw (c.put.ensures, c.set_stack.ensures, c.units_in.ensures, ← c.running-running.ensures)
     (view_push_value o (entry_of c.args.slot) p.1)

@@ -5,7 +5,8 @@ use Rattle.frames.proofs.thread_frames.Frames.views.Goals as goal
 
 pub view_of-requires : goal.view_of-requires
 view_of-requires c =
-    let region = region_of _ _ _ _ _ c.self.invariant (sym c.at.ensures) in
+    let sound = rw (← c.deref-parts.ensures) at c.self.invariant in
+    let region = region_of _ _ _ _ _ sound (sym c.at.ensures) in
     record { fits = omega arith; few = omega arith }
 
 pub loop-depth-preserved : goal.loop-depth-preserved
