@@ -74,16 +74,16 @@ impl World {
         }
     }
 
-    /// The same after so many turns in one call: where there were any, the next step is none of those.
-    fn turn_after(&mut self, worker: u8, made: u32) -> Turn
+    /// The same, where `some_rounds` didn't make it: with several threads it asked for one look at the step.
+    fn turn_after_some(&mut self, worker: u8) -> Turn
         requires { worker < self.old.journal.workers }
         ensures world { self.new ≡ picked self.old worker }
         ensures answer { result ≡ picked_answer self.old worker }
     {
-        if made > 0 {
-            self.turn_by_look(worker)
+        if self.thread_count() > 1 {
+            self.turn_of_ready(worker)
         } else {
-            self.turn_of_picked(worker)
+            self.turn_by_look(worker)
         }
     }
 
@@ -109,14 +109,14 @@ impl World {
         }
     }
 
-    /// One round, after so many in one call; what its thread's turn answers.
-    fn another_round(&mut self, worker: u8, gc: u32, made: u32) -> Turn
+    /// One round, which `some_rounds` didn't make; what its thread's turn answers.
+    fn another_round(&mut self, worker: u8, gc: u32) -> Turn
         requires { worker < self.old.journal.workers }
         ensures world { self.new ≡ after_round self.old worker gc }
         ensures answer { result ≡ picked_answer self.old worker }
         ensures workers { self.new.journal.workers ≡ self.old.journal.workers }
     {
-        let answer = self.turn_after(worker, made);
+        let answer = self.turn_after_some(worker);
         if is_done(answer) {
             self.sweep(worker, gc);
         }
@@ -187,7 +187,7 @@ impl World {
                 left -= 1;
                 continue;
             }
-            let answer = self.another_round(worker, gc, rounds.made);
+            let answer = self.another_round(worker, gc);
             if !is_done(answer) {
                 return RoundsMade { answer, left };
             }
