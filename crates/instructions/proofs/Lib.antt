@@ -59,6 +59,7 @@ pub mod MethodLemmas
 pub mod MonitorAgreement
 pub mod MonitoringLemmas
 pub mod NamedClasses
+pub mod MonitorLeaps
 pub mod MonitorMoves
 pub mod MethodsKnown
 pub mod ObjectCallAgreement

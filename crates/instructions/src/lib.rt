@@ -24,7 +24,7 @@
 //! | files | what stands there |
 //! |---|---|
 //! | first_turns, state/first, idle | turns of the first ready thread by one look at the step; who is known not to be ready |
-//! | register_turns, code_calls, code_steps, callees, heap_steps | register code with other steps between, on lent frames |
+//! | register_turns, code_calls, code_steps, monitors_in_code, callees, heap_steps | register code and other steps, on lent frames |
 //! | quick_calls, quick_arrays, quick_fields, quick_statics, quick_casts | steps on whole frames, of which nothing unusual comes |
 //! | lone_rounds, noted_rounds, quick_objects, doubling | rounds with turns of the collector and with new objects |
 //! | stops | places before which such rounds end |
@@ -62,6 +62,7 @@ pub mod lone_rounds;
 mod machines;
 mod methods;
 mod monitoring;
+mod monitors_in_code;
 mod names;
 pub mod noted_rounds;
 mod objects;
