@@ -8,7 +8,7 @@ The plain explorer (tools/plain/explorer.py) makes each turn of each thread of e
 
 - the report is complete, and its outcomes are those that the plain explorer finds, none more and none less;
 - no witness is shorter than the plain explorer's, which is a shortest one;
-- divided into parts, it has the same outcomes, and each part that is a journal replays;
+- divided into parts, or by several workers, it has the same outcomes, and each part that is a journal replays;
 - each witness is a journal that replays to its outcome, or, where a cell has to be missing, turns that lead to it on the plain machine;
 - each outcome that N random schedules come to, on a small heap with its collector, is one of those that `--no-room` reports.
 
@@ -309,6 +309,17 @@ def divided_otherwise(jvm, folder, files, no_room, parts):
     return None if got == wanted else f"the parts have {got}, and the whole {wanted}"
 
 
+def shared_otherwise(jvm, files, no_room, workers):
+    """How the outcomes that several workers find differ from those that one finds, or nothing."""
+    within = ["--output", str(OUTPUT), *["--no-room"] * no_room]
+    status, whole, said = shown([jvm, "explore", *within, *files])
+    by_all, told, wrong = shown([jvm, "explore", *within, "--workers", str(workers), *files])
+    if (status, said, by_all, wrong) != (0, b"", 0, b""):
+        return f"statuses {status} and {by_all}, {said!r}, {wrong!r}"
+    got, wanted = sorted(it for it, _ in report_of(told)[0]), sorted(it for it, _ in report_of(whole)[0])
+    return None if got == wanted else f"{workers} workers find {got}, and one {wanted}"
+
+
 def scheduled(dice, classes):
     """What a random schedule comes to on a small heap, or nothing where it takes too long."""
     world = Seen(classes, (dice.choice([3, 4, 5, 6, 8, 12]), 0, 0), TURNS, OUTPUT)
@@ -335,6 +346,7 @@ def tried(jvm, room, count, seed, schedules):
                 yield name, difference(jvm, witnesses, files, classes, no_room, found[no_room]), files
                 os.mkdir(divided := f"{folder}/parts{int(no_room)}")
                 yield f"parts of {name}", divided_otherwise(jvm, divided, files, no_room, dice.choice([1, 2, 5, 16])), files
+                yield f"workers of {name}", shared_otherwise(jvm, files, no_room, 3), files
             except ValueError as wrong:
                 yield name, str(wrong), files
         met = {it for it in (scheduled(dice, classes) for _ in range(schedules)) if it} - set(found[True].outcomes)

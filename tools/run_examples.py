@@ -28,7 +28,7 @@ import tempfile
 from answers import tried_answers
 from damaged import tried_damaged
 from debug_agrees import classes_of, tried_debugger
-from explore_agrees import OUTPUT, difference as explored_otherwise, divided_otherwise, tried_explorer
+from explore_agrees import OUTPUT, difference as explored_otherwise, divided_otherwise, shared_otherwise, tried_explorer
 from failing_streams import tried_failures
 from limits import tried_limits
 from memory_refused import tried_refusals
@@ -188,6 +188,8 @@ def tried_explored(jvm, room):
         for parts in (1, 2, 7):
             os.makedirs(folder := f"{room}/parts/{title}/{parts}")
             yield f"explore/{title}, in {parts} parts at most", divided_otherwise(jvm, folder, files, no_room, parts)
+        for workers in (2, 4):
+            yield f"explore/{title}, by {workers} workers", shared_otherwise(jvm, files, no_room, workers)
 
 
 def tried_merged(jvm, room):

@@ -19,13 +19,17 @@ HasFiles (Explain code) = Unit {0}
 abbrev pub IsPartCount : ℕ → Type 0
 IsPartCount n = (1 ≤ n) × (n ≤ 65536)
 
+-- so many threads explore
+abbrev pub IsWorkerCount : ℕ → Type 0
+IsWorkerCount n = (1 ≤ n) × (n ≤ 64)
+
 -- the numbers that no world tests lie in their ranges: how many turns the collector makes after one of a thread, how
--- many carriers there are, how far an exploration goes, and into how many parts it is divided
+-- many carriers there are, how far an exploration goes, into how many parts it is divided, and how many threads explore
 abbrev pub InRange : Command → Type 0
 InRange (Run options) = (options.gc ≤ 1000) × (1 ≤ options.carriers) × (options.carriers ≤ 8)
 InRange (Debug options) = Unit {0}
 InRange (Explore options) = (1 ≤ options.states) × LimitsFit options.limits.steps options.limits.output
-    × IfSome options.split IsPartCount
+    × IfSome options.split IsPartCount × IsWorkerCount options.workers
 InRange (Assemble options) = Unit {0}
 InRange (Disassemble file) = Unit {0}
 InRange (Replay options) = Unit {0}

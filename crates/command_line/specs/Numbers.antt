@@ -37,3 +37,4 @@ pub record HasBounds (words : Found) (options : ExploreOptions) : Type 0 where
   pub steps : IsNumber words (codes "steps") options.limits.steps
   pub output : IsNumber words (codes "output") options.limits.output
   pub split : IsNumber words (codes "split") (unwrap_or options.split 0)
+  pub workers : IsNumber words (codes "workers") options.workers

@@ -1,7 +1,7 @@
 //! The command line.
-ghost use Rattle.std.specs.Prelude.{◌≡◌, ◌<◌, ◌≤◌, IfOk, IfSome, IsTrue, length, unwrap_or};
+ghost use Rattle.std.specs.Prelude.{◌≡◌, ◌<◌, ◌≤◌, IfOk, IfSome, IsTrue, is_some, length, true, unwrap_or};
 ghost use Rattle.clap.specs.Words.{found_of};
-ghost use Rattle.command_line.specs.Commands.{HasFiles, InRange, IsPartCount};
+ghost use Rattle.command_line.specs.Commands.{HasFiles, InRange, IsPartCount, IsWorkerCount};
 ghost use Rattle.command_line.specs.Numbers.{HasBounds, HasLimits, HasNumbers, IsNumber};
 ghost use Rattle.model.specs.Limits.{LimitsFit};
 
@@ -88,6 +88,8 @@ pub struct ExploreOptions {
     pub from: Option<String>,
     /// into how many parts the exploration is divided at most, if it is divided and not made
     pub split: Option<u32>,
+    /// how many threads explore
+    pub workers: u8,
     pub files: Vec<String>,
 }
 
@@ -113,7 +115,7 @@ pub enum LineError {
     /// There is no memory for it.
     #[error("memory")]
     Memory,
-    /// A file name is missing, or a number is out of its range.
+    /// A file name is missing, a number is out of its range, or several workers are to divide an exploration.
     #[error("options")]
     Options,
     /// The words are no command, or ask for help or the version: what clap says, and whether it goes to standard error.
@@ -265,6 +267,7 @@ const DEBUG_COMMANDS: &str = "Commands, one a line:\n  \
 const EXPLORE_EXAMPLES: &str = "Examples:\n  \
     jvm explore examples/D.j\n  \
     jvm explore --no-room --witnesses /tmp examples/explore/room.j\n  \
+    jvm explore --workers 4 examples/workers.j\n  \
     jvm explore --split 8 --witnesses /tmp examples/D.j\n  \
     jvm explore --from /tmp/1.journal examples/D.j";
 
@@ -324,6 +327,13 @@ fn explore_line<'a>(alloc: Global) -> Result<Line<'a>, AllocError> {
         "turns that may lead to a state",
     )?;
     let line = with_number(alloc, line, "output", "4096", "bytes that may be printed")?;
+    let line = with_number(
+        alloc,
+        line,
+        "workers",
+        "1",
+        "threads that explore, 1 to 64, each a part of the whole; each may keep as many states as --states says",
+    )?;
     line.arg(no_room_option(alloc))?
         .arg(witnesses_option(alloc))?
         .arg(from_option(alloc))?
@@ -489,21 +499,37 @@ fn may_be_parts(split: Option<u32>) -> bool
     }
 }
 
-/// The options of `explore`, each number from the words after its own name. `Options` where a number is out of its range.
+/// Whether so many threads can explore. Only one can divide an exploration.
+fn may_be_workers(workers: u32, split: Option<u32>) -> bool
+    ensures count { IsTrue result → IsWorkerCount workers }
+    ensures alone { IsTrue result → is_some split ≡ true → workers ≡ 1 }
+{
+    1 <= workers && workers <= 64 && (workers == 1 || split.is_none())
+}
+
+/// The options of `explore`, each number from the words after its own name. `Options` where a number is out of its range,
+/// or several threads are to divide an exploration.
 fn explore_options(alloc: Global, matches: &ArgMatches<'_>) -> Result<ExploreOptions, LineError>
     ensures numbers { IfOk result (HasBounds (found_of matches.now)) }
     ensures files { IfOk result (λ options. 0 < length options.files.items) }
     ensures states { IfOk result (λ options. 1 ≤ options.states) }
     ensures limits { IfOk result (λ options. LimitsFit options.limits.steps options.limits.output) }
     ensures parts { IfOk result (λ options. IfSome options.split IsPartCount) }
+    ensures workers { IfOk result (λ options. IsWorkerCount options.workers) }
+    ensures alone { IfOk result (λ options. is_some options.split ≡ true → options.workers ≡ 1) }
 {
     let states = number_of(matches, "states");
     let split = number_in(matches, "split");
+    let workers = number_of(matches, "workers");
     let limits = Limits {
         steps: number_of(matches, "steps"),
         output: number_of(matches, "output"),
     };
-    if states < 1 || !limits.is_in_range() || !may_be_parts(split) {
+    if states < 1
+        || !limits.is_in_range()
+        || !may_be_parts(split)
+        || !may_be_workers(workers, split)
+    {
         return Err(LineError::Options);
     }
     Ok(ExploreOptions {
@@ -513,6 +539,7 @@ fn explore_options(alloc: Global, matches: &ArgMatches<'_>) -> Result<ExploreOpt
         witnesses: path(alloc, matches, "witnesses")?,
         from: path(alloc, matches, "from")?,
         split,
+        workers: workers as u8,
         files: files(alloc, matches)?,
     })
 }
@@ -554,7 +581,8 @@ fn upgrade_options(alloc: Global, matches: &ArgMatches<'_>) -> Result<UpgradeOpt
     })
 }
 
-/// The command that clap found. `Options` where no file is named or a number is out of its range.
+/// The command that clap found. `Options` where no file is named, a number is out of its range, or several workers are to
+/// divide an exploration.
 fn command_of(alloc: Global, matches: &ArgMatches<'_>) -> Result<Command, LineError>
     ensures files { IfOk result HasFiles }
     ensures range { IfOk result InRange }
@@ -573,7 +601,8 @@ fn command_of(alloc: Global, matches: &ArgMatches<'_>) -> Result<Command, LineEr
 }
 
 /// The command that the words stand for, the program's own name first. `Words` where clap takes none of them, `Options`
-/// where no file is named or a number is out of its range, `Memory` where there was none.
+/// where no file is named, a number is out of its range, or several workers are to divide an exploration, `Memory` where
+/// there was none.
 pub fn options(alloc: Global, words: &[&str]) -> Result<Command, LineError>
     ensures files { IfOk result HasFiles }
     ensures range { IfOk result InRange }

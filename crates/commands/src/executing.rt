@@ -192,7 +192,7 @@ fn tell<E: Write>(errors: &mut E, ending: &Ending) -> io::Result<()> {
 /// threads ended or a file was written, 1 a thread ended by an exception, 2 refused input, 3 a fault, 4 a limit, 5
 /// stuck, 6 memory, a thread that can't be started, or a file or stream that can't be read or written, standard error
 /// among them, 8 a run that differs from the ideal run with which it is compared. The carriers of a run are threads of
-/// the runtime. While a run is compared or a journal replayed row by row, a watch is told after each row how many are
+/// the runtime, and so are the workers of an exploration. While a run is compared or a journal replayed row by row, a watch is told after each row how many are
 /// done and how many are left; while a text is read by `asm`, the same of its lines, and while schedules are explored,
 /// of states.
 pub fn execute<R: Threads + Wait + Sync, F: Files, I: Read, W: Write, E: Write, P: Watch>(
@@ -208,7 +208,7 @@ pub fn execute<R: Threads + Wait + Sync, F: Files, I: Read, W: Write, E: Write, 
     let ending = match command {
         Command::Run(options) => either(run(rt, alloc, options, files, output, watch)),
         Command::Debug(options) => either(debugged(alloc, options, files, input, output)),
-        Command::Explore(options) => either(explored(alloc, options, files, output, watch)),
+        Command::Explore(options) => either(explored(rt, alloc, options, files, output, watch)),
         Command::Assemble(options) => either(assemble(alloc, options, files, watch)),
         Command::Disassemble(name) => either(disassemble(alloc, name, files, output)),
         Command::Replay(options) => either(replay(alloc, options, files, output, watch)),

@@ -9,10 +9,12 @@ use debug_texts::counted::Counted;
 use debug_texts::sinks::Sink;
 use explore_texts::reports::put_report;
 use exploring::{Explored, explore_after};
+use exploring_together::explore_together;
 use model::watching::Watch;
 use program_files::files::Files;
 use std::alloc::Global;
 use std::io::Write;
+use std::thread::Threads;
 
 /// What an exploration found, or how it ends the command without a report.
 fn found(alloc: Global, begun: &Beginning, explored: Option<Explored>) -> Result<Explored, Ending> {
@@ -23,15 +25,21 @@ fn found(alloc: Global, begun: &Beginning, explored: Option<Explored>) -> Result
     }
 }
 
-/// What an exploration finds after its beginning.
-fn search<P: Watch>(
+/// What an exploration finds after its beginning. A watch is told of it where one thread explores.
+fn search<R: Threads + Sync, P: Watch>(
+    rt: &R,
     alloc: Global,
     begun: &Beginning,
     options: &ExploreOptions,
     watch: &mut P,
 ) -> Result<Explored, Ending> {
     let transitions = transitions_of(alloc, begun)?;
-    let explored = explore_after(alloc, &transitions, &begun.first, bounds_of(options), watch);
+    let (bounds, workers) = (bounds_of(options), options.workers);
+    let explored = if workers > 1 {
+        explore_together(rt, alloc, &transitions, &begun.first, bounds, workers)
+    } else {
+        explore_after(alloc, &transitions, &begun.first, bounds, watch)
+    };
     found(alloc, begun, explored)
 }
 
@@ -83,7 +91,8 @@ fn told<F: Files, W: Write>(
 }
 
 /// Explores what can follow a beginning and tells what was found, or divides it, as the options say.
-fn followed<F: Files, W: Write, P: Watch>(
+fn followed<R: Threads + Sync, F: Files, W: Write, P: Watch>(
+    rt: &R,
     alloc: Global,
     begun: &Beginning,
     options: &ExploreOptions,
@@ -94,7 +103,7 @@ fn followed<F: Files, W: Write, P: Watch>(
     match options.split {
         Some(most) => split_up(alloc, begun, options, most, files, output),
         None => {
-            let explored = search(alloc, begun, options, watch)?;
+            let explored = search(rt, alloc, begun, options, watch)?;
             told(alloc, begun, &explored, options, files, output)
         }
     }
@@ -102,9 +111,10 @@ fn followed<F: Files, W: Write, P: Watch>(
 
 /// Explores every schedule of the program of some files, or what can follow a run of it, writes the report, and then the
 /// witnesses, where they are wanted. The end is good where the exploration is complete, and a limit where it was cut off.
-/// A watch is told how many states were expanded, and how many wait. Where parts are wanted, it writes these in place of
-/// exploring.
-pub fn explored<F: Files, W: Write, P: Watch>(
+/// Several workers explore in threads of the runtime, a part each. Where there is one, a watch is told how many states were
+/// expanded, and how many wait. Where parts are wanted, it writes these in place of exploring.
+pub fn explored<R: Threads + Sync, F: Files, W: Write, P: Watch>(
+    rt: &R,
     alloc: Global,
     options: &ExploreOptions,
     files: &mut F,
@@ -112,5 +122,5 @@ pub fn explored<F: Files, W: Write, P: Watch>(
     watch: &mut P,
 ) -> Result<Ending, Ending> {
     let begun = begin(alloc, options, files)?;
-    followed(alloc, &begun, options, files, output, watch)
+    followed(rt, alloc, &begun, options, files, output, watch)
 }
