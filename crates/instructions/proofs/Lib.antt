@@ -12,6 +12,7 @@ pub mod ClaimFrames
 pub mod ClaimLemmas
 pub mod CodeResolves
 pub mod CodeStepLemmas
+pub mod CodeTurns
 pub mod CallAgreement
 pub mod CallLemmas
 pub mod CallsSilent
