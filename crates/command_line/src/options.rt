@@ -1,7 +1,7 @@
 //! The command line.
 ghost use Rattle.std.specs.Prelude.{◌≡◌, ◌<◌, ◌≤◌, IfOk, IfSome, IsTrue, is_some, length, true, unwrap_or};
 ghost use Rattle.clap.specs.Words.{found_of};
-ghost use Rattle.command_line.specs.Commands.{HasFiles, InRange, IsPartCount, IsWorkerCount};
+ghost use Rattle.command_line.specs.Commands.{DividesAlone, HasFiles, InRange, IsPartCount, IsWorkerCount};
 ghost use Rattle.command_line.specs.Numbers.{HasBounds, HasLimits, HasNumbers, IsNumber};
 ghost use Rattle.model.specs.Limits.{LimitsFit};
 
@@ -516,7 +516,7 @@ fn explore_options(alloc: Global, matches: &ArgMatches<'_>) -> Result<ExploreOpt
     ensures limits { IfOk result (λ options. LimitsFit options.limits.steps options.limits.output) }
     ensures parts { IfOk result (λ options. IfSome options.split IsPartCount) }
     ensures workers { IfOk result (λ options. IsWorkerCount options.workers) }
-    ensures alone { IfOk result (λ options. is_some options.split ≡ true → options.workers ≡ 1) }
+    ensures alone { IfOk result DividesAlone }
 {
     let states = number_of(matches, "states");
     let split = number_in(matches, "split");
