@@ -13,7 +13,6 @@ use register_code::Memory;
 use register_code::steps::Lends;
 use std::alloc::{AllocError, Global};
 use std::marker::Model;
-use std::mem::replace;
 use values::slots::{Slot, entry_in, value_in};
 
 /// How many units a thread's frames may take.
@@ -146,36 +145,20 @@ impl Units {
     }
 }
 
-/// These slots, and unset ones after them, up to so many. There is room for them.
-#[inline(never)]
-fn reached(slots: Vec<Slot>, count: usize) -> Vec<Slot>
-    requires some { vec_len slots < count }
-    requires room { count ≤ vec_capacity slots }
-    ensures items { result.items ≡ slots.items ++ replicate (count - vec_len slots) UnsetSlot }
-    ensures capacity { vec_capacity slots ≤ vec_capacity result }
-{
-    let mut more = slots;
-    for _place in more.len()..count {
-        match more.push(Slot::Unset) {
-            Ok(()) => {}
-            Err(_) => unreachable!(),
-        }
-    }
-    more
-}
-
 /// Has unset slots after these, up to so many. There is room for them.
-// They are moved away and back, so that no call that isn't inlined sees where they stand.
-#[inline(always)]
+#[inline(never)]
 fn grow(slots: &mut Vec<Slot>, count: usize)
     requires some { vec_len slots.old < count }
     requires room { count ≤ vec_capacity slots.old }
     ensures items { slots.new.items ≡ slots.old.items ++ replicate (count - vec_len slots.old) UnsetSlot }
     ensures capacity { vec_capacity slots.old ≤ vec_capacity slots.new }
 {
-    let none = Vec::new(*slots.allocator());
-    let more = reached(replace(slots, none), count);
-    let _none = replace(slots, more);
+    for _place in slots.len()..count {
+        match slots.push(Slot::Unset) {
+            Ok(()) => {}
+            Err(_) => unreachable!(),
+        }
+    }
 }
 
 /// Makes these slots unset.
