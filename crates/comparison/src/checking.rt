@@ -4,7 +4,6 @@ ghost use Rattle.std.specs.Prelude.{◌≡◌, ◌<◌, ◌↔◌, [], Decides, 
 ghost use Rattle.model.specs.Journals.{AreOfWorkers};
 ghost use Rattle.model.specs.Machines.{noted, row_for};
 ghost use Rattle.model.specs.Shows.{Shows};
-ghost use Rattle.ideal_run.specs.Runs.{opening_run};
 ghost use Rattle.comparison.specs.Checking.{reference_of};
 ghost use Rattle.comparison.specs.Compared.{AgreesIf, IsFirstOther};
 ghost use Rattle.scheduler.specs.OnCells.{cells_of, heap_on};
@@ -137,8 +136,8 @@ fn difference_by<P: Watch>(
     reference: &mut IdealReference<'_>,
     watch: &mut P,
 ) -> Result<Option<usize>, AllocError>
-    requires program { reference.old.program.now ≡ world.now.program }
-    requires run { reference.old.run ≡ opening_run world.now.program world.now.journal.limits }
+    requires program { world.now.program ≡ reference.old.program.now }
+    requires run { reference.old.run ≡ reference_of (with_all world.now []) }
     ensures { IfOk result (λ row. row ≡ None) }
 {
     world.journal().is_sound();
@@ -170,6 +169,6 @@ pub fn first_difference_watched<P: Watch>(
 ) -> Result<Option<usize>, AllocError>
     ensures { IfOk result (λ row. row ≡ None) }
 {
-    let mut reference = IdealReference::new(alloc, world.program(), world.journal().limits())?;
+    let mut reference = IdealReference::of(alloc, world)?;
     difference_by(alloc, world, &mut reference, watch)
 }

@@ -1,5 +1,5 @@
 //! What plays the reference's part beside a world.
-ghost use Rattle.std.specs.Prelude.{◌≡◌, ◌↔◌, IfOk, IsTrue, OnOk, None, Some};
+ghost use Rattle.std.specs.Prelude.{◌≡◌, ◌↔◌, [], IfOk, IsTrue, OnOk, None, Some};
 ghost use Rattle.std.specs.List.{All};
 ghost use Rattle.model.specs.declared.journals.Outcome.TheVariants.{Fault};
 ghost use Rattle.model.specs.Machines.{Recorded, noted};
@@ -7,6 +7,7 @@ ghost use Rattle.model.specs.Worlds.{World};
 ghost use Rattle.ideal_run.specs.Effected.{choice_in};
 ghost use Rattle.ideal_run.specs.Runs.{opening_run};
 ghost use Rattle.comparison.specs.Checking.{IsNoFault, reference_of, reported_choice};
+ghost use Rattle.scheduler.specs.Replaying.{with_all};
 
 use ideal_run::worlds::World as IdealWorld;
 use ideal_run::{Choice, Ideal};
@@ -58,6 +59,19 @@ impl<'a> IdealReference<'a> {
             program,
             run,
         })
+    }
+
+    /// The ideal run of a world's program before its first turn, with which the world may be compared
+    /// (`checking::difference`). `AllocError` where memory runs out.
+    #[tactic(auto, using(crate::proofs::Followed::reference_opened))]
+    pub fn of(alloc: Global, world: &'a World) -> Result<IdealReference<'a>, AllocError>
+        ensures program { IfOk result (λ reference. world.now.program ≡ reference.program.now) }
+        ensures run { IfOk result (λ reference. reference.run ≡ reference_of (with_all world.now [])) }
+    {
+        match IdealReference::new(alloc, world.program(), world.journal().limits()) {
+            Ok(reference) => Ok(reference),
+            Err(error) => Err(error),
+        }
     }
 }
 

@@ -1,5 +1,5 @@
 //! Reports: outcomes in the order in which they were found, and how far the exploration went.
-ghost use Rattle.std.specs.Prelude.{◌≡◌, ◌-◌, ◌^◌, ◌<◌, OnOk};
+ghost use Rattle.std.specs.Prelude.{◌≡◌, ◌+◌, ◌-◌, ◌^◌, ◌<◌, OnErr, OnOk};
 ghost use Rattle.std.specs.Fmt.{decimal};
 ghost use Rattle.model.specs.Faults.{fault_number};
 ghost use Rattle.debug_texts.specs.Streams.{Puts};
@@ -61,6 +61,7 @@ fn put_fault_of<S: Sink>(
     requires { S.failures sink.old < 2 ^ 64 - 1 }
     ensures puts { Puts result (S.contents sink.old) (S.contents sink.new) (fault_line number.now fault.now thread.now) }
     ensures same { OnOk result (S.failures sink.new ≡ S.failures sink.old) }
+    ensures failed { OnErr result (S.failures sink.new ≡ S.failures sink.old + 1) }
 {
     put_pieces(
         sink,
@@ -87,6 +88,7 @@ fn put_fault<S: Sink>(
     ensures puts { Puts result (S.contents sink.old) (S.contents sink.new)
         (fault_line number.now (decimal (fault_number fault)) (decimal thread)) }
     ensures same { OnOk result (S.failures sink.new ≡ S.failures sink.old) }
+    ensures failed { OnErr result (S.failures sink.new ≡ S.failures sink.old + 1) }
 {
     let mut fault_buffer = Buffer::new();
     let mut thread_buffer = Buffer::new();
@@ -108,6 +110,7 @@ fn put_head<S: Sink>(
     requires { S.failures sink.old < 2 ^ 64 - 1 }
     ensures puts { Puts result (S.contents sink.old) (S.contents sink.new) (head_line number status fault) }
     ensures same { OnOk result (S.failures sink.new ≡ S.failures sink.old) }
+    ensures failed { OnErr result (S.failures sink.new ≡ S.failures sink.old + 1) }
 {
     let mut buffer = Buffer::new();
     let number = buffer.format(number).as_bytes();
@@ -127,6 +130,7 @@ fn put_ended<S: Sink>(sink: &mut S, thread: usize, class: &[u8]) -> Result<(), W
     requires { S.failures sink.old < 2 ^ 64 - 1 }
     ensures puts { Puts result (S.contents sink.old) (S.contents sink.new) (ended_line thread class.now) }
     ensures same { OnOk result (S.failures sink.new ≡ S.failures sink.old) }
+    ensures failed { OnErr result (S.failures sink.new ≡ S.failures sink.old + 1) }
 {
     let mut buffer = Buffer::new();
     put_pieces(
@@ -146,6 +150,7 @@ fn put_end<S: Sink>(sink: &mut S, thread: usize, end: &End) -> Result<(), WriteF
     requires { S.failures sink.old < 2 ^ 64 - 1 }
     ensures puts { Puts result (S.contents sink.old) (S.contents sink.new) (end_line thread end.now) }
     ensures same { OnOk result (S.failures sink.new ≡ S.failures sink.old) }
+    ensures failed { OnErr result (S.failures sink.new ≡ S.failures sink.old + 1) }
 {
     match end {
         End::Lives => put_pieces(sink, &[]),
@@ -159,6 +164,7 @@ fn put_ends<S: Sink>(sink: &mut S, ends: &[End]) -> Result<(), WriteFailed>
     requires { S.failures sink.old < 2 ^ 64 - 1 }
     ensures puts { Puts result (S.contents sink.old) (S.contents sink.new) (numbered_texts end_line 0 ends.now) }
     ensures same { OnOk result (S.failures sink.new ≡ S.failures sink.old) }
+    ensures failed { OnErr result (S.failures sink.new ≡ S.failures sink.old + 1) }
 {
     for (thread, end) in ends.iter().enumerate() {
         match put_end(sink, thread, end) {
@@ -183,6 +189,7 @@ fn put_tail_of<S: Sink>(
     ensures puts { Puts result (S.contents sink.old) (S.contents sink.new)
         (tail_of turns.now size.now output.now closing.now) }
     ensures same { OnOk result (S.failures sink.new ≡ S.failures sink.old) }
+    ensures failed { OnErr result (S.failures sink.new ≡ S.failures sink.old + 1) }
 {
     put_pieces(
         sink,
@@ -195,6 +202,7 @@ fn put_tail<S: Sink>(sink: &mut S, turns: usize, output: &[u8]) -> Result<(), Wr
     requires { S.failures sink.old < 2 ^ 64 - 1 }
     ensures puts { Puts result (S.contents sink.old) (S.contents sink.new) (tail_text turns output.now) }
     ensures same { OnOk result (S.failures sink.new ≡ S.failures sink.old) }
+    ensures failed { OnErr result (S.failures sink.new ≡ S.failures sink.old + 1) }
 {
     let mut turns_buffer = Buffer::new();
     let mut output_buffer = Buffer::new();
@@ -221,6 +229,7 @@ fn put_parts<S: Sink>(
     ensures puts { Puts result (S.contents sink.old) (S.contents sink.new)
         (parts_text number status fault ends.now turns output.now) }
     ensures same { OnOk result (S.failures sink.new ≡ S.failures sink.old) }
+    ensures failed { OnErr result (S.failures sink.new ≡ S.failures sink.old + 1) }
 {
     match put_head(sink, number, status, fault) {
         Err(failed) => Err(failed),
@@ -236,6 +245,7 @@ fn put_found<S: Sink>(sink: &mut S, number: usize, found: &Found) -> Result<(), 
     requires { S.failures sink.old < 2 ^ 64 - 1 }
     ensures puts { Puts result (S.contents sink.old) (S.contents sink.new) (found_text number found.now) }
     ensures same { OnOk result (S.failures sink.new ≡ S.failures sink.old) }
+    ensures failed { OnErr result (S.failures sink.new ≡ S.failures sink.old + 1) }
 {
     let outcome = &found.outcome;
     put_parts(
@@ -254,6 +264,7 @@ fn put_all<S: Sink>(sink: &mut S, found: &[Found]) -> Result<(), WriteFailed>
     requires { S.failures sink.old < 2 ^ 64 - 1 }
     ensures puts { Puts result (S.contents sink.old) (S.contents sink.new) (numbered_texts found_text 1 found.now) }
     ensures same { OnOk result (S.failures sink.new ≡ S.failures sink.old) }
+    ensures failed { OnErr result (S.failures sink.new ≡ S.failures sink.old + 1) }
 {
     for (place, each) in found.iter().enumerate() {
         match put_found(sink, place + 1, each) {
@@ -276,6 +287,7 @@ fn put_last_of<S: Sink>(
     requires { S.failures sink.old < 2 ^ 64 - 1 }
     ensures puts { Puts result (S.contents sink.old) (S.contents sink.new) (last_of states.now turns.now how.now) }
     ensures same { OnOk result (S.failures sink.new ≡ S.failures sink.old) }
+    ensures failed { OnErr result (S.failures sink.new ≡ S.failures sink.old + 1) }
 {
     put_pieces(
         sink,
@@ -301,6 +313,7 @@ fn put_last<S: Sink>(
     requires { S.failures sink.old < 2 ^ 64 - 1 }
     ensures puts { Puts result (S.contents sink.old) (S.contents sink.new) (last_line states turns cut) }
     ensures same { OnOk result (S.failures sink.new ≡ S.failures sink.old) }
+    ensures failed { OnErr result (S.failures sink.new ≡ S.failures sink.old + 1) }
 {
     let mut states_buffer = Buffer::new();
     let mut turns_buffer = Buffer::new();
@@ -323,6 +336,7 @@ fn put_whole<S: Sink>(
     requires { S.failures sink.old < 2 ^ 64 - 1 }
     ensures puts { Puts result (S.contents sink.old) (S.contents sink.new) (whole_text found.now states turns cut) }
     ensures same { OnOk result (S.failures sink.new ≡ S.failures sink.old) }
+    ensures failed { OnErr result (S.failures sink.new ≡ S.failures sink.old + 1) }
 {
     match put_all(sink, found) {
         Err(failed) => Err(failed),
@@ -337,6 +351,7 @@ pub fn put_report<S: Sink>(sink: &mut S, explored: &Explored) -> Result<(), Writ
     requires { S.failures sink.old < 2 ^ 64 - 1 }
     ensures puts { Puts result (S.contents sink.old) (S.contents sink.new) (report_text explored.now) }
     ensures same { OnOk result (S.failures sink.new ≡ S.failures sink.old) }
+    ensures failed { OnErr result (S.failures sink.new ≡ S.failures sink.old + 1) }
 {
     put_whole(
         sink,

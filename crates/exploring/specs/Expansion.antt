@@ -1,4 +1,4 @@
-use Rattle.std.specs.Prelude.{◌≡◌, ◌⊎◌, ◌<◌, ◌≤◌, ◌+◌, ℕ, List, [], ◌∷◌, ◌++◌, length, map, slice_get, Bool, true}
+use Rattle.std.specs.Prelude.{◌≡◌, ◌⊎◌, ◌<◌, ◌≤◌, ◌+◌, ◌^◌, ℕ, List, [], ◌∷◌, ◌++◌, length, map, slice_get, Bool, true}
 use Rattle.std.specs.Prelude.{false, Option, Some, None}
 use Rattle.model.specs.declared.journals.Limits.{Limits}
 use Rattle.model.specs.declared.turns.Actor.TheVariants.{Thread}
@@ -10,6 +10,8 @@ use Rattle.ideal_run.specs.Effected.{choice_in}
 use Rattle.exploration.specs.ClosedLists.{IsWitnessed}
 use Rattle.exploration.specs.Reduction.{IsAheadAmong}
 use Rattle.exploration.specs.Search.{IsExpanded}
+use Rattle.exploring.specs.declared.explored.Cut.{Cut}
+use Rattle.exploring.specs.declared.explored.Cut.TheVariants.{States, Memory, Depth}
 use Rattle.exploring.specs.declared.explored.Move.{Move}
 use Rattle.exploring.specs.declared.origins.Origin.{Origin}
 use Rattle.exploring.specs.declared.search.Waiting.{Waiting}
@@ -32,6 +34,13 @@ world_of s = s.world
 -- a state waits that is new
 abbrev pub kept : Search → Waiting → Origin → Search
 kept s state origin = record s { origins = s.origins ++ origin ∷ []; waiting = s.waiting ++ state ∷ [] }
+
+-- why the state isn't made to which a move of another one, and so many plain steps after it, lead: its number has no
+-- room, as many are kept as may be, or how far away it is has no room
+abbrev pub CutsAt : ℕ → Search → Waiting → ℕ → Cut → Type 0
+CutsAt most s parent ahead Memory = 2 ^ 32 ≤ length s.origins
+CutsAt most s parent ahead States = (length s.origins < 2 ^ 32) × (most ≤ length s.origins)
+CutsAt most s parent ahead Depth = parent.level + 1 < 2 ^ 32 → 2 ^ 32 ≤ parent.depth + 1 + ahead
 
 -- the first that waited doesn't any longer
 abbrev pub Takes : Search → Search → Option Waiting → Type 0

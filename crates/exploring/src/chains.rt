@@ -1,5 +1,5 @@
 //! Chains of pieces, which share what they begin with: each is known by its last link.
-ghost use Rattle.std.specs.Prelude.{◌≡◌, ◌+◌, IfOk, OnOk};
+ghost use Rattle.std.specs.Prelude.{◌≡◌, ◌+◌, ◌^◌, ◌≤◌, IfOk, MatchResult, OnOk};
 ghost use Rattle.std.specs.List.{position_or_len};
 ghost use Rattle.std.specs.Str.{bytes_eq};
 ghost use Rattle.indexmap.specs.IndexSet.{insert_key};
@@ -34,13 +34,26 @@ impl Model for Chains {
     ghost view = { λ a. record { pieces = a.pieces.keys; links = a.links.keys; last = a.last } };
 }
 
-/// A number with 32 bits. `AllocError` where it has no room.
+/// A number with 32 bits. `AllocError` exactly where it has no room.
 fn narrow(n: usize) -> Result<u32, AllocError>
-    ensures { IfOk result (λ number. number ≡ n) }
+    ensures { MatchResult result (λ number. number ≡ n) (λ _. 2 ^ 32 ≤ n) }
 {
     match u32::try_from(n) {
         Ok(number) => Ok(number),
         Err(_) => Err(AllocError),
+    }
+}
+
+/// The number of a link by its place, from 1 on. `AllocError` exactly where it has no room.
+fn number_at(place: usize) -> Result<u32, AllocError>
+    ensures { MatchResult result (λ number. number ≡ place + 1) (λ _. 2 ^ 32 ≤ place + 1) }
+{
+    match narrow(place) {
+        Ok(number) => match number.checked_add(1) {
+            Some(next) => Ok(next),
+            None => Err(AllocError),
+        },
+        Err(error) => Err(error),
     }
 }
 
@@ -64,11 +77,7 @@ fn number_of_link(links: &mut IndexSet<Link>, link: Link) -> Result<u32, AllocEr
     ensures links { OnOk result (links.new.keys ≡ insert_key is_same links.old.keys link) }
 {
     let (place, _) = links.insert_full(link)?;
-    let number = narrow(place)?;
-    match number.checked_add(1) {
-        None => Err(AllocError),
-        Some(next) => Ok(next),
-    }
+    number_at(place)
 }
 
 impl Chains {

@@ -26,6 +26,11 @@ pub enum Cut {
 }
 
 impl From<AllocError> for Cut {
+    ghost use Rattle.std.specs.Prelude.{◌≡◌};
+    ghost use Rattle.exploring.specs.declared.explored.Cut.TheVariants.{Memory};
+
+    ghost from_gives = { λ _ e. e ≡ Memory };
+
     fn from(_error: AllocError) -> Cut {
         Cut::Memory
     }

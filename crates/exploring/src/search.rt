@@ -1,10 +1,10 @@
 //! A search through the states of a program, breadth first.
-ghost use Rattle.std.specs.Prelude.{◌≡◌, ◌<◌, ◌+◌, ◌∷◌, [], ◌||◌, length, map, List, IfOk, OnOk};
+ghost use Rattle.std.specs.Prelude.{◌≡◌, ◌<◌, ◌+◌, ◌∷◌, [], ◌||◌, length, map, List, IfOk, MatchResult, OnOk};
 ghost use Rattle.model.specs.Worlds.{World};
 ghost use Rattle.exploration.specs.ClosedLists.{IsWitnessed};
 ghost use Rattle.exploring.specs.declared.explored.Move.{Move};
 ghost use Rattle.exploring.specs.Expansion.{Expands, ExpandsAll, Finds, Follows, HasKnown, IsTraced, Takes, kept, way_to};
-ghost use Rattle.exploring.specs.Expansion.{world_of};
+ghost use Rattle.exploring.specs.Expansion.{CutsAt, world_of};
 ghost use Rattle.exploring.specs.Origins.{pairs_in};
 
 use crate::ahead::go_ahead;
@@ -158,7 +158,8 @@ impl Search {
         Ok(())
     }
 
-    /// The state to which a move of another one leads, and so many plain steps after it. Only so many states may be kept.
+    /// The state to which a move of another one leads, and so many plain steps after it. `Memory` exactly where its number
+    /// has no room; `States` where as many are kept as may be; `Depth` where it is too far away to be counted.
     fn next_state(
         &self,
         most: u32,
@@ -166,12 +167,12 @@ impl Search {
         ahead: u32,
         world: World,
     ) -> Result<Waiting, Cut>
-        ensures { IfOk result (λ state. state ≡ record {
+        ensures { MatchResult result (λ state. state ≡ record {
           world = world;
           place = length self.now.origins;
           level = parent.now.level + 1;
           depth = parent.now.depth + 1 + ahead;
-        }) }
+        }) (CutsAt most self.now parent.now ahead) }
     {
         let Ok(place) = u32::try_from(self.origins.len()) else {
             return Err(Cut::Memory);

@@ -4,14 +4,10 @@ use Rattle.model.specs.Limits.{ShapeFits}
 use Rattle.comparison.specs.Checking.{reference_of}
 use Rattle.ideal_run.specs.Runs.{Run}
 use Rattle.comparison.proofs.Compared.{run_differs_nowhere}
-use Rattle.comparison.proofs.Followed.{reference_opened}
 use Rattle.comparison.proofs.checking.difference_by.Goals as goal
 
 pub difference-requires : goal.difference-requires
-difference-requires g c = (
-  sym c.requires.program,
-  c.requires.run ∙ sym (reference_opened c.args.world.now),
-)
+difference-requires g c = (c.requires.program, c.requires.run)
 
 pub last_difference-requires : goal.last_difference-requires
 last_difference-requires g c = (c.in_ok-row.ensures.followed c.in-None.is).1
