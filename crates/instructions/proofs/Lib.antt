@@ -5,6 +5,7 @@ pub mod AloneLemmas
 pub mod ArrayLemmas
 pub mod AwaitingLemmas
 pub mod BeginLemmas
+pub mod BurstLemmas
 pub mod ByNumberLemmas
 pub mod CellsFound
 pub mod ChainLemmas

@@ -2,6 +2,7 @@ pub mod Acting
 pub mod Allowed
 pub mod Aside
 pub mod Awaiting
+pub mod Bursts
 pub mod ByNumbers
 pub mod Callees
 pub mod CallsByNumbers

@@ -80,6 +80,11 @@ noted_as threads thread stepped =
     begun_if (record { courses = slice_set threads.courses thread stepped.turned.course; parked = threads.parked })
     stepped.begun
 
+-- the first thread has made a turn that came to this, or none
+abbrev pub noted_last : ThreadsValue → Option Stepped → ThreadsValue
+noted_last threads None = threads
+noted_last threads (Some stepped) = noted_as threads 0 stepped
+
 -- the numbers from one up to another
 abbrev pub numbers_up : ℕ → ℕ → List ℕ
 numbers_up n zero = []

@@ -1,5 +1,5 @@
 //! The heap: objects in cells, and the account of the cells.
-ghost use Rattle.std.specs.Prelude.{[], ◌≡◌, ◌+◌, ◌<◌, ◌^◌, length, slice_get, IfOk, IfSome, Some};
+ghost use Rattle.std.specs.Prelude.{[], ◌≡◌, ◌+◌, ◌<◌, ◌^◌, length, slice_get, true, IfOk, IfSome, Some};
 ghost use Rattle.model.specs.Accounts.{has_room, take_cell};
 ghost use Rattle.std.specs.Option.{option_map};
 ghost use Rattle.values.specs.Slots.{value_of};
@@ -69,6 +69,9 @@ impl Model for Heap {
 
     ghost invariant = { λ a. IsHeap a.cells.shape a.account a.cells.objects a.births a.classes };
 }
+
+/// A birth of this number may be the last.
+const MOST_BIRTHS: u32 = u32::MAX - 1;
 
 impl Heap {
     /// A heap that holds OutOfMemoryError and StackOverflowError alone. `AllocError` where there is no memory for it.
@@ -161,6 +164,19 @@ impl Heap {
         ensures kind { result ≡ own_kind self.now.classes 17 }
     {
         Kind::Instance(self.classes + 17)
+    }
+
+    /// Whether a turn may be made on it: the errors that were made before the run have their cells, and a birth more has
+    /// a number.
+    #[inline(always)]
+    pub(crate) fn serves_turns(&self) -> bool
+        ensures errors { result ≡ true → HoldsErrors self.now.account }
+        ensures births { result ≡ true → self.now.births + 1 < 2 ^ 32 }
+    {
+        if self.births >= MOST_BIRTHS {
+            return false;
+        }
+        self.birth(1) == 1 && self.birth(2) == 2
     }
 
     /// What a word of the object of a reference holds. `None` past its last word, and where there is no object.

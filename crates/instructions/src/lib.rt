@@ -18,12 +18,13 @@
 //! | heaps, with the files of heaps/ | objects in cells, the account of the cells, the write barrier |
 //! | state/classes, state/listing, state/objects, state/showing, state/threads, held, lists, names | what an observer is told |
 //!
-//! The quick ways make many turns in one call, or one turn by one look at its step. Each answers that it made them, or
-//! that it made none and changed nothing; then the general way is asked:
+//! The quick ways make many turns in one call. Each answers how many it made; then the general way is asked. Within a
+//! loop, what makes one step answers that it did, or that it changed nothing:
 //!
 //! | files | what stands there |
 //! |---|---|
-//! | first_turns, state/first, idle | turns of the first ready thread by one look at the step; who is known not to be ready |
+//! | first_turns, state/first, state/running, idle | turns of several threads in a loop; who is known not to be ready, or to be so |
+//! | bursts, state/bursts | many turns of a thread that is alone, whatever comes of their steps, and their rows |
 //! | register_turns, code_calls, code_steps, monitors_in_code, callees, heap_steps | register code and other steps, on lent frames |
 //! | quick_calls, quick_arrays, quick_fields, quick_statics, quick_casts | steps on whole frames, of which nothing unusual comes |
 //! | lone_rounds, noted_rounds, quick_objects, doubling | rounds with turns of the collector and with new objects |
@@ -37,6 +38,7 @@ mod acting;
 mod arrays;
 mod asides;
 mod awaiting;
+mod bursts;
 mod callees;
 mod calls;
 mod casts;

@@ -1,11 +1,12 @@
 //! What is known of a thread's turn before it is made: whether it waits, and how much it prints.
-ghost use Rattle.std.specs.Prelude.{◌≡◌, ◌≤◌, ◌<◌, IfSome, None, length};
+ghost use Rattle.std.specs.Prelude.{◌≡◌, ◌≤◌, ◌<◌, ℕ, IfSome, List, None, false, length, true};
 ghost use Rattle.std.specs.Option.{option_map};
 ghost use Rattle.model.specs.Accepted.Refusals.{refusal_of};
 ghost use Rattle.model.specs.Frames.{running, running_frame};
 ghost use Rattle.instructions.specs.CallsByNumbers.{printed_by_call};
 ghost use Rattle.instructions.specs.Operated.{may_wait, printed_at, standing, waits_at, waits_by};
 
+use crate::first_turns::is_unmarked;
 use crate::kinds::Course;
 use crate::machines::Machine;
 use crate::printing::{line_length, long_line_length};
@@ -27,6 +28,22 @@ pub(crate) fn may_wait(operation: Operation) -> bool
         | Operation::Monitorenter => true,
         _ => false,
     }
+}
+
+/// Whether the turn of a thread with these frames is known to wait for nobody, by the operation of its step alone.
+#[inline(always)]
+pub(crate) fn never_waits(program: &Program, frames: &Frames) -> bool
+    ensures { result ≡ true → (courses : List Course) (m : Machine) (t : ℕ)
+        → waits_at program.now courses m t (running frames.now) ≡ false }
+{
+    if !is_unmarked(frames) {
+        return false;
+    }
+    let step = program.code(frames.method()).step(frames.pc());
+    if may_wait(step.operation) {
+        return false;
+    }
+    true
 }
 
 /// How many bytes an operation would print, its operand being right.

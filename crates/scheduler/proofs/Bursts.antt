@@ -1,27 +1,27 @@
 -- Many rounds in one call: the worlds that they lead to, and what they answer.
-use Rattle.std.proofs.Common.{◌≡◌, ◌≢◌, ◌<◌, ◌≤◌, ◌+◌, ◌-◌, ℕ, zero, suc, length, Bool}
+use Rattle.std.proofs.Common.{◌≡◌, ◌≢◌, ◌<◌, ◌≤◌, ◌+◌, ◌-◌, ℕ, zero, suc, List, [], ◌∷◌, length, Bool}
 use Rattle.std.proofs.Common.{true, false, Option, Some, None, refl, ap, sym, subst, ◌∙◌, arith}
 use Rattle.std.specs.Prelude.{if◌then◌else◌}
-use Rattle.model.specs.declared.journals.Limits.{Limits}
-use Rattle.model.specs.declared.journals.Outcome.TheVariants.{Done}
+use Rattle.model.specs.declared.journals.Outcome.{Outcome}
 use Rattle.model.specs.declared.journals.Row.{Row}
 use Rattle.model.specs.declared.turns.Actor.{Actor}
 use Rattle.model.specs.declared.turns.Actor.TheVariants.{Thread}
 use Rattle.model.specs.declared.turns.Turn.{Turn}
 use Rattle.model.specs.declared.turns.Turn.TheVariants.{Done as TurnDone, Fault, NotReady, OutputFull, StepLimit}
 use Rattle.model.specs.declared.turns.Turn.TheVariants.{Stopped}
-use Rattle.model.specs.Journals.{JournalValue, with_row}
+use Rattle.model.specs.Journals.{JournalValue}
 use Rattle.model.specs.Machines.{Recorded, after_turn_by, row_for, with_row as recorded_with}
 use Rattle.model.specs.Observers.{is_running, pick_of, status_of}
+use Rattle.instructions.specs.Bursts.{FirstTurns, LeadsBy}
 use Rattle.instructions.specs.FirstTurns.{IsFirstTurn}
 use Rattle.instructions.specs.Loaded.{Loaded}
-use Rattle.instructions.specs.LoneRounds.{noted_times}
-use Rattle.instructions.specs.PlainRuns.{FirstTurns, start_after}
-use Rattle.instructions.proofs.NotedRoundLemmas.{times-length, times-limits}
-use Rattle.scheduler.specs.Rounds.{LeadsOn, after_round, after_rounds, done_by, is_done, picked}
+use Rattle.instructions.specs.LoneRounds.{noted_rounds}
+use Rattle.instructions.specs.PlainRuns.{start_after}
+use Rattle.instructions.proofs.NotedRoundLemmas.{rounds-workers}
+use Rattle.scheduler.specs.Rounds.{LeadsOn, after_round, after_rounds, is_done, picked}
 use Rattle.scheduler.specs.Rounds.{picked_answer, rounds_answer, rounds_left, turned_by}
 use Rattle.scheduler.specs.Worlds.{IsOf, recorded}
-use Rattle.scheduler.proofs.FirstTurns.{first_done, first_fits, first_noted, first_picked}
+use Rattle.scheduler.proofs.FirstTurns.{first_done, first_noted, first_picked}
 
 -- ---- rounds with no turn of the collector, seen from the first one
 
@@ -179,58 +179,62 @@ module _ (v w : Recorded) (worker n : ℕ) (on : LeadsOn v worker 0 n w) where
 
 -- ---- turns of the first thread are rounds
 
--- the state after so many turns of a thread, and the journal with their rows
-pub record Leads (s : Loaded) (j : JournalValue) (k worker thread n : ℕ) (after : Loaded) : Type 0 where
-  pub is : IsOf after (noted_times j (done_by thread worker) n) (start_after k thread n)
-  pub on : LeadsOn (recorded s j) worker 0 n (recorded after (noted_times j (done_by thread worker) n))
-  pub room : 0 < n → length j.rows + n ≤ j.limits.steps
+-- the state after turns of thread 0 with these outcomes, and the journal with their rows
+record Leads (s : Loaded) (j : JournalValue) (k worker : ℕ) (outcomes : List Outcome) (after : Loaded) : Type 0 where
+  is : IsOf after (noted_rounds j worker 0 outcomes) (start_after k 0 (length outcomes))
+  on : LeadsOn (recorded s j) worker 0 (length outcomes) (recorded after (noted_rounds j worker 0 outcomes))
 
-module _ (s : Loaded) (j : JournalValue) (k worker thread : ℕ) (is : IsOf s j k) where
-  abbrev row : Row
-  row = done_by thread worker
-
+module _ (s : Loaded) (j : JournalValue) (k worker : ℕ) (is : IsOf s j k) where
   abbrev v : Recorded
   v = recorded s j
 
-  one_more : (n : ℕ) (x after : Loaded) → Leads s j k worker thread n x
-      → IsFirstTurn x (start_after k thread n) after (thread, Done) → after.machine.world.fault ≡ None
-      → Leads s j k worker thread (suc n) after
-  one_more n x after leads made faultless =
-      let jn = noted_times j row n in
-      let kn = start_after k thread n in
+  one_more : (outcome : Outcome) (outcomes : List Outcome) (x after : Loaded) → Leads s j k worker outcomes x
+      → IsFirstTurn x (start_after k 0 (length outcomes)) after (0, outcome) → after.machine.world.fault ≡ None
+      → Leads s j k worker (outcome ∷ outcomes) after
+  one_more outcome outcomes x after leads made faultless =
+      let n = length outcomes in
+      let jn = noted_rounds j worker 0 outcomes in
+      let kn = start_after k 0 n in
       let u = recorded x jn in
-      let still : IsOf after (with_row jn row) (thread + 1) = first_noted x jn kn leads.is worker thread Done after made
-      in
-      let same : recorded after (with_row jn row) ≡ picked u worker = first_picked x jn kn leads.is worker thread Done
-      after made in
-      let answer = first_done x jn kn leads.is worker thread Done after made faultless in
-      let fits = first_fits x jn kn leads.is worker thread Done after made in
-      let long = times-length j row n in
-      let limits = ap (λ (l : Limits). l.steps) (times-limits j row n) in
+      let w = recorded after (noted_rounds j worker 0 (outcome ∷ outcomes)) in
+      let same : w ≡ picked u worker = first_picked x jn kn leads.is worker 0 outcome after made in
+      let answer = first_done x jn kn leads.is worker 0 outcome after made faultless in
       record {
-        is = still;
-        on = leads-more v u (recorded after (with_row jn row)) worker n leads.on same answer;
-        room = λ some. omega (arith, fits, long, limits);
+        is = first_noted x jn kn leads.is worker 0 outcome after made;
+        on = leads-more v u w worker n leads.on same answer;
       }
 
-  pub leads : (n : ℕ) (after : Loaded) → FirstTurns s k thread n after → Leads s j k worker thread n after
-  leads zero after turns = record {
+  leads : (outcomes : List Outcome) (after : Loaded) → FirstTurns s k 0 outcomes after
+      → Leads s j k worker outcomes after
+  leads [] after turns = record {
     is = subst (λ (x : Loaded). IsOf x j k) (sym turns) is;
     on = subst (λ (x : Loaded). LeadsOn v worker 0 0 (recorded x j)) (sym turns) (leads-none v worker 0);
-    room = λ some. absurd (omega (arith, some));
   }
-  leads (suc n) after turns = one_more n turns.0 after (leads n turns.0 turns.1) turns.2 turns.3
+  leads (outcome ∷ outcomes) after turns =
+      one_more outcome outcomes turns.0 after (leads outcomes turns.0 turns.1) turns.2 turns.3
 
-  -- the same where the next thread to look at and the journal are known by equations
-  pub leads-to : (n : ℕ) (after : Loaded) (next : ℕ) (noted : JournalValue) → FirstTurns s k thread n after
-      → next ≡ start_after k thread n → noted ≡ noted_times j row n
-      → IsOf after noted next × LeadsOn v worker 0 n (recorded after noted)
-  leads-to n after next noted turns is_next is_noted =
-      let x = leads n after turns in (
-        subst (λ (i : ℕ). IsOf after noted i) (sym is_next)
-            (subst (λ (jn : JournalValue). IsOf after jn (start_after k thread n)) (sym is_noted) x.is),
-        subst (λ (jn : JournalValue). LeadsOn v worker 0 n (recorded after jn)) (sym is_noted) x.on,
-      )
+  -- the same where the next thread to look at and the journal are known
+  pub record Enters (n : ℕ) (after : Loaded) (noted : JournalValue) (next : ℕ) : Type 0 where
+    pub joined : IsOf after noted next
+    pub on : LeadsOn v worker 0 n (recorded after noted)
+    pub workers : noted.workers ≡ j.workers
+
+  pub enters : (n : ℕ) (after : Loaded) (noted : JournalValue) (next : ℕ) → LeadsBy s k worker j n after noted
+      → next ≡ start_after k 0 n → Enters n after noted next
+  enters n after noted next by is_next =
+      let outcomes = by.outcomes in
+      let x = leads outcomes after by.turns in
+      let jn = noted_rounds j worker 0 outcomes in
+      record {
+        joined =
+            subst (λ (i : ℕ). IsOf after noted i) (sym is_next)
+            (subst (λ (y : JournalValue). IsOf after y (start_after k 0 n)) (sym by.noted)
+            (subst (λ (i : ℕ). IsOf after jn (start_after k 0 i)) by.count x.is));
+        on =
+            subst (λ (y : JournalValue). LeadsOn v worker 0 n (recorded after y)) (sym by.noted)
+            (subst (λ (i : ℕ). LeadsOn v worker 0 i (recorded after jn)) by.count x.on);
+        workers = ap (λ (y : JournalValue). y.workers) by.noted ∙ rounds-workers j worker 0 outcomes;
+      }
 
 -- the one after a thread that made turns
 pub following : (start thread n : ℕ) → n ≢ 0 → thread + 1 ≡ start_after start thread n

@@ -17,24 +17,31 @@ use Rattle.model.specs.Worlds.{World}
 use Rattle.model.proofs.CollectorLemmas.Running.{machine_of-turn}
 use Rattle.join.proofs.ReadingBack.{reads_back}
 use Rattle.instructions.specs.declared.idle.Idle.{Idle}
-use Rattle.instructions.specs.Idle.{AreIdle}
+use Rattle.instructions.specs.Idle.{AreIdle, LeavesOthers}
 use Rattle.instructions.specs.Loaded.{Loaded}
-use Rattle.scheduler.specs.Rounds.{collections}
+use Rattle.scheduler.specs.Rounds.{LeavesOthersReady, collections}
 use Rattle.scheduler.specs.Worlds.{IsOf, recorded}
 use Rattle.scheduler.proofs.Picking.{refused-world}
 
-module _ (s : Loaded) (j : JournalValue) (k : ℕ) (is : IsOf s j k) (idle : Idle) where
+module _ (s : Loaded) (j : JournalValue) (k : ℕ) (is : IsOf s j k) where
   abbrev v : Recorded
   v = recorded s j
 
-  ready_is : (t : ℕ) → is_ready s.program s.machine.world t ≡ is_ready s.program (ideal v) t
+  pub ready_is : (t : ℕ) → is_ready s.program s.machine.world t ≡ is_ready s.program (ideal v) t
   ready_is = (reads_back s.program j.shape j.limits s.machine (machine_of v) is.holds is.bounded is.joint).ready
 
-  pub idle-on-cells : AreIdle s.program (ideal v) idle → AreIdle s.program s.machine.world idle
-  idle-on-cells known t e = ready_is t ∙ known t e
+  pub idle-on-cells : (idle : Idle) → AreIdle s.program (ideal v) idle → AreIdle s.program s.machine.world idle
+  idle-on-cells idle known t e = ready_is t ∙ known t e
 
-  pub idle-recorded : AreIdle s.program s.machine.world idle → AreIdle s.program (ideal v) idle
-  idle-recorded known t e = sym (ready_is t) ∙ known t e
+  pub idle-recorded : (idle : Idle) → AreIdle s.program s.machine.world idle → AreIdle s.program (ideal v) idle
+  idle-recorded idle known t e = sym (ready_is t) ∙ known t e
+
+-- a turn on cells leaves others as they were
+pub others-recorded : (s : Loaded) (j : JournalValue) (k : ℕ) → IsOf s j k → (after : Loaded) (noted : JournalValue)
+    (next : ℕ) → IsOf after noted next → (t : ℕ) → LeavesOthers s t after
+    → LeavesOthersReady (recorded s j) t (recorded after noted)
+others-recorded s j k is after noted next still t others u other =
+    sym (ready_is after noted next still u) ∙ others u other ∙ ready_is s j k is u
 
 -- ---- turns of the collector
 
@@ -70,11 +77,15 @@ module _ (v : Recorded) (worker : ℕ) where
   unfolding after_turn_by
   program_after = program_added (row_for v Collector worker)
 
--- they leave those that aren't ready so
+-- they leave each thread as ready as it was
+pub ready-collected : (v : Recorded) (worker n t : ℕ) →
+    let w = collections v worker n in is_ready w.program (ideal w) t ≡ is_ready v.program (ideal v) t
+ready-collected v worker zero t = refl
+ready-collected v worker (suc n) t =
+    let after = after_turn_by v Collector worker in
+    ready-collected after worker n t ∙ ap (λ program. is_ready program (ideal after) t) (program_after v worker)
+    ∙ collected_ready v worker t
+
 pub idle-collected : (v : Recorded) (worker n : ℕ) (idle : Idle) → AreIdle v.program (ideal v) idle →
     let w = collections v worker n in AreIdle w.program (ideal w) idle
-idle-collected v worker zero idle known = known
-idle-collected v worker (suc n) idle known =
-    let after = after_turn_by v Collector worker in
-    idle-collected after worker n idle (λ t e. ap (λ program. is_ready program (ideal after) t) (program_after v worker)
-    ∙ collected_ready v worker t ∙ known t e)
+idle-collected v worker n idle known t e = ready-collected v worker n t ∙ known t e

@@ -16,3 +16,4 @@ pub mod HeldCells
 pub mod Observing
 pub mod PastStops
 pub mod Picking
+pub mod Collecting

@@ -1,10 +1,8 @@
 -- The invariant of a world gives what no turn breaks, now and at every moment of its run.
-use Rattle.std.proofs.Common.{◌≡◌, ◌≢◌, ◌↔◌, ◌≤◌, ◌<◌, ◌+◌, ℕ, zero, suc, List, [], ◌∷◌, ◌++◌, length, take, drop}
+use Rattle.std.proofs.Common.{◌≡◌, ◌≢◌, ◌+◌, ℕ, zero, suc, List, [], ◌∷◌, ◌++◌, take, drop}
 use Rattle.std.proofs.Common.{Bool, true, false, Option, Some, None, is_some, true≢false, refl, ap, sym, subst, ◌∙◌}
 use Rattle.std.proofs.Common.{arith}
-use Rattle.std.specs.Prelude.{slice_get, IsTrue}
-use Rattle.model.specs.declared.colours.Cell.TheVariants.{Taken}
-use Rattle.model.specs.declared.colours.Colour.{Colour}
+use Rattle.std.specs.Prelude.{slice_get}
 use Rattle.model.specs.declared.journals.HeapShape.{HeapShape}
 use Rattle.model.specs.declared.journals.Limits.{Limits}
 use Rattle.model.specs.declared.journals.Outcome.{Outcome}
@@ -15,14 +13,12 @@ use Rattle.model.specs.declared.turns.Actor.TheVariants.{Thread, Collector}
 use Rattle.model.specs.declared.turns.Turn.{Turn}
 use Rattle.model.specs.Accounts.{has_room}
 use Rattle.model.specs.ClassListings.{ClassListing}
-use Rattle.model.specs.Collector.Choices.{LacksRoom}
 use Rattle.model.specs.Collector.Invariant.{Tidy}
-use Rattle.model.specs.Collector.Reclaim.{IsAppend, Lost, ended}
 use Rattle.model.specs.Collector.Runs.{Holds, advance_if, moved_by, moved_by_all}
 use Rattle.model.specs.Collector.Table.{cell_at}
 use Rattle.model.specs.Effects.Choice.{NewObject, NoRoom as NoneHasRoom}
 use Rattle.model.specs.Journals.{JournalValue}
-use Rattle.model.specs.Machines.{Machine, Recorded, advance, advance_all, after_turn_by, after_turns, machine_of}
+use Rattle.model.specs.Machines.{Machine, Recorded, advance, advance_all, after_turn_by, machine_of}
 use Rattle.model.specs.Machines.{noted, opening_machine, outcome_asked, outcome_by, outcome_if, row_by}
 use Rattle.model.specs.Machines.{row_for, row_unless_refused}
 use Rattle.model.specs.Limits.{ShapeFits}
@@ -41,7 +37,7 @@ use Rattle.join.specs.Joined.{Bounded, Joint}
 use Rattle.join.specs.TurnsOnCells.{CellMachine, moved_on}
 use Rattle.join.proofs.Opening.{opening_bounded, opening_joins}
 use Rattle.join.proofs.Runs.{turn_is_shown}
-use Rattle.scheduler.specs.LosesNothing.{FindsRoom, HeldThroughout, LosesNothing, Reclaims, TellsRoom, ToldBy}
+use Rattle.scheduler.specs.LosesNothing.{HeldThroughout, LosesNothing, Reclaims, TellsRoom, ToldBy}
 use Rattle.scheduler.specs.OnCells.{actors_of, cells_of}
 use Rattle.scheduler.specs.Replaying.{AreMade, IsMade, front, with_all}
 use Rattle.scheduler.specs.Worlds.{IsOf, recorded}

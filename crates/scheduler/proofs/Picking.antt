@@ -1,7 +1,7 @@
 -- Which thread is picked, what is answered where none is, and what where the journal has no room for a row.
-use Rattle.std.proofs.Common.{◌≡◌, ℕ, List, [], ◌∷◌, ◌++◌, take, drop, Bool, true, false, ◌&&◌, ◌||◌, Option, Some, None}
+use Rattle.std.proofs.Common.{◌≡◌, ◌+◌, ℕ, zero, suc, List, [], ◌∷◌, ◌++◌, arith, take, drop, Bool, true, false, ◌&&◌, ◌||◌, Option, Some, None}
 use Rattle.std.proofs.Common.{is_some, is_none, not, refl, ap, sym, ◌∙◌}
-use Rattle.std.specs.Prelude.{if◌then◌else◌, nat_le}
+use Rattle.std.specs.Prelude.{IfSome, if◌then◌else◌, nat_le, slice_get}
 use Rattle.std.specs.List.{find, list_any}
 use Rattle.std.proofs.Math.Bool.{or_comm}
 use Rattle.std.proofs.lemmas.List.{take-append-drop}
@@ -16,16 +16,17 @@ use Rattle.model.specs.declared.turns.Turn.{Turn}
 use Rattle.model.specs.declared.turns.Turn.TheVariants.{Done, NotReady, OutputFull, StepLimit}
 use Rattle.model.specs.Collector.Runs.{advance_if, moved_by}
 use Rattle.model.specs.Machines.{Machine, Recorded, after_turn_by, answer_to, answer_unless_refused, machine_of}
-use Rattle.model.specs.Machines.{reported_of, row_for, row_unless_refused, with_row}
+use Rattle.model.specs.Machines.{reported_of, row_unless_refused, with_row}
 use Rattle.model.specs.Observers.{after_last, cyclic_from, ideal, is_running, pick_of, status_by, status_in}
 use Rattle.model.specs.Observers.{status_of}
-use Rattle.model.specs.Ready.{is_ready, some_is_ready, some_lives, thread_numbers}
+use Rattle.model.specs.Ready.{is_ready, numbers_from, some_is_ready, some_lives, thread_numbers}
 use Rattle.model.specs.Table.Next.{completion}
 use Rattle.model.specs.Effects.Choice.{NewObject}
 use Rattle.model.specs.Turns.{actor_refusal, overflows, refusal, refusal_after, thread_refusal, unless_refused}
-use Rattle.model.specs.Worlds.{World, is_live}
+use Rattle.model.specs.Worlds.{Thread as ThreadOf, World, is_live, lives}
 use Rattle.model.proofs.CollectorLemmas.Running.{machine_of-turn}
 use Rattle.instructions.proofs.CyclicLemmas.{some-found}
+use Rattle.instructions.proofs.Waiting.{ready_lives}
 use Rattle.scheduler.specs.Rounds.{answered_by, is_done, picked, picked_answer, turned_by}
 
 -- ---- a world runs where a thread is picked
@@ -92,6 +93,26 @@ pub running_from : (program : List ClassListing) (w : World) (n : ℕ)
     → is_some (find (is_ready program w) (cyclic_from n (thread_numbers w))) ≡ is_running (status_in program w)
 running_from program w n = some_turned (is_ready program w) n (thread_numbers w) ∙ sym (running_ready program w)
 
+-- and where some thread is ready
+any_numbered : (p : ℕ → Bool) (n : ℕ) (threads : List ThreadOf) (t : ℕ) → lives (slice_get threads t) ≡ true
+    → p (n + t) ≡ true → list_any p (numbers_from n threads) ≡ true
+any_numbered p n [] t live e = absurd (cc)
+any_numbered p n (x ∷ threads) zero live e =
+    let here : n + 0 ≡ n = omega arith in
+    ap (λ b. b || list_any p (numbers_from (n + 1) threads)) (ap p (sym here) ∙ e)
+any_numbered p n (x ∷ threads) (suc t) live e =
+    let there : n + 1 + t ≡ n + suc t = omega arith in
+    or_comm (p n) (list_any p (numbers_from (n + 1) threads))
+    ∙ ap (λ b. b || p n) (any_numbered p (n + 1) threads t live (ap p there ∙ e))
+
+pub ready_runs : (program : List ClassListing) (w : World) (t : ℕ) → is_ready program w t ≡ true
+    → is_running (status_in program w) ≡ true
+ready_runs program w t e =
+    let itself : 0 + t ≡ t = omega arith in
+    running_ready program w
+    ∙ any_numbered (is_ready program w) 0 w.threads t (ready_lives program w t e)
+    (ap (is_ready program w) itself ∙ e)
+
 -- ---- where it doesn't run nothing is made
 
 turned_by_none : (v : Recorded) (worker : ℕ) (o : Option ℕ) → is_some o ≡ false → turned_by v worker o ≡ v
@@ -119,6 +140,14 @@ found_passes p (y ∷ ys) x e = by (found_passes p ys x) (p y) refl e
         → p x ≡ true
     by later true is found = cc
     by later false is found = later found
+
+-- which is ready
+pub picked_ready : (v : Recorded) (o : Option ℕ) → o ≡ pick_of v
+    → IfSome o (λ t. is_ready v.program (ideal v) t ≡ true)
+picked_ready v None e = tt
+picked_ready v (Some t) e =
+    found_passes (is_ready v.program (ideal v)) (cyclic_from (after_last 0 v.journal.rows) (thread_numbers (ideal v))) t
+    (sym e)
 
 module _ (program : List ClassListing) (limits : Limits) (w : World) (t : ℕ) (ready : is_ready program w t ≡ true) where
   by_limit : (b : Bool) → (if b then Some StepLimit else thread_refusal program limits w t) ≡ Some NotReady → ⊥
@@ -184,7 +213,7 @@ faultless_by None lives ready e = refl
 faultless_by (Some fault) lives ready e = absurd (cc)
 
 module _ (v : Recorded) (worker : ℕ) (runs : is_running (status_of v) ≡ true) where
-  faultless : (ideal v).fault ≡ None
+  pub faultless : (ideal v).fault ≡ None
   faultless = faultless_by (ideal v).fault (some_lives (ideal v)) (some_is_ready v.program (ideal v)) runs
 
   refusal_is : (actor : Actor) (full : Bool) → nat_le v.journal.limits.steps (ideal v).rows ≡ full

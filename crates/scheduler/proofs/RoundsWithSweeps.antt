@@ -5,7 +5,6 @@ use Rattle.std.specs.Prelude.{if◌then◌else◌, is_some, nat_le}
 use Rattle.std.proofs.lemmas.Bool.{leb-true}
 use Rattle.model.specs.declared.journals.Limits.{Limits}
 use Rattle.model.specs.declared.journals.Outcome.{Outcome}
-use Rattle.model.specs.declared.journals.Outcome.TheVariants.{Done}
 use Rattle.model.specs.declared.turns.Actor.TheVariants.{Collector}
 use Rattle.model.specs.declared.turns.Fault.{Fault}
 use Rattle.model.specs.declared.turns.Status.TheVariants.{Running}
@@ -23,7 +22,7 @@ use Rattle.instructions.specs.declared.stops.Stops.{Stops}
 use Rattle.instructions.specs.PlainRuns.{start_after}
 use Rattle.instructions.proofs.NotedRoundLemmas.{rounds-workers, times-length, times-limits}
 use Rattle.scheduler.specs.Rounds.{IsRoundPast, LeadsInto, LeadsOn, LeadsPast, PickedIf, PickedPast}
-use Rattle.scheduler.specs.Rounds.{RoundsPast, after_round, after_rounds, collections, done_by, is_done, picked}
+use Rattle.scheduler.specs.Rounds.{RoundsPast, after_round, after_rounds, collections, is_done, picked}
 use Rattle.scheduler.specs.Rounds.{picked_answer, rounds_answer, rounds_left, swept}
 use Rattle.scheduler.specs.Worlds.{IsOf, recorded}
 use Rattle.scheduler.proofs.Bursts.{answer-left, leads-none, left-left, world-left}
@@ -194,32 +193,32 @@ module _ (s : Loaded) (j : JournalValue) (k : ℕ) (is : IsOf s j k) (stops : St
       (leads outcomes rounds.0 rounds.1) rounds.2
 
   -- whole rounds, and the thread's turn of one more, or not
-  record IsBegun (outcomes : List Outcome) (x : Loaded) (begun : Bool) (after : Loaded) : Type 0 where
-    joined : IsOf after (noted_if (noted_rounds j worker gc outcomes) worker begun)
-        (start_after k 0 (length outcomes + (if begun then 1 else 0)))
-    into : PickedIf (recorded x (noted_rounds j worker gc outcomes)) worker begun
-        (recorded after (noted_if (noted_rounds j worker gc outcomes) worker begun))
-    past : PickedPast stops (recorded x (noted_rounds j worker gc outcomes)) worker begun
-        (recorded after (noted_if (noted_rounds j worker gc outcomes) worker begun))
+  record IsBegun (outcomes : List Outcome) (x : Loaded) (last : Option Outcome) (after : Loaded) : Type 0 where
+    joined : IsOf after (noted_if (noted_rounds j worker gc outcomes) worker last)
+        (start_after k 0 (length outcomes + (if is_some last then 1 else 0)))
+    into : PickedIf (recorded x (noted_rounds j worker gc outcomes)) worker (is_some last)
+        (recorded after (noted_if (noted_rounds j worker gc outcomes) worker last))
+    past : PickedPast stops (recorded x (noted_rounds j worker gc outcomes)) worker (is_some last)
+        (recorded after (noted_if (noted_rounds j worker gc outcomes) worker last))
 
-  begun_as : (outcomes : List Outcome) (x : Loaded) → Leads s j k stops worker gc outcomes x → (begun : Bool)
-      (after : Loaded) → FirstTurnIf x stops (start_after k 0 (length outcomes)) 0 begun after
-      → IsBegun outcomes x begun after
-  begun_as outcomes x leads true after turn =
+  begun_as : (outcomes : List Outcome) (x : Loaded) → Leads s j k stops worker gc outcomes x → (last : Option Outcome)
+      (after : Loaded) → FirstTurnIf x stops (start_after k 0 (length outcomes)) 0 last after
+      → IsBegun outcomes x last after
+  begun_as outcomes x leads (Some outcome) after turn =
       let n = length outcomes in
       let jn = noted_rounds j worker gc outcomes in
       let kn = start_after k 0 n in
-      let still : IsOf after (with_row jn (done_by 0 worker)) 1 = first_noted x jn kn leads.is worker 0 Done after
-      turn.0 in
+      let still : IsOf after (with_row jn (thread_row outcome worker)) 1 = first_noted x jn kn leads.is worker 0 outcome
+      after turn.0 in
       let next : suc n ≡ n + 1 = omega arith in
-      let picked_is = first_picked x jn kn leads.is worker 0 Done after turn.0 in
-      let done = ap is_done (first_done x jn kn leads.is worker 0 Done after turn.0 turn.1) in
+      let picked_is = first_picked x jn kn leads.is worker 0 outcome after turn.0 in
+      let done = ap is_done (first_done x jn kn leads.is worker 0 outcome after turn.0 turn.1) in
       record {
-        joined = subst (λ (m : ℕ). IsOf after (with_row jn (done_by 0 worker)) (start_after k 0 m)) next still;
+        joined = subst (λ (m : ℕ). IsOf after (with_row jn (thread_row outcome worker)) (start_after k 0 m)) next still;
         into = (picked_is, done);
-        past = (first_past x jn kn leads.is worker 0 Done after turn.0 stops turn.2, picked_is, done);
+        past = (first_past x jn kn leads.is worker 0 outcome after turn.0 stops turn.2, picked_is, done);
       }
-  begun_as outcomes x leads false after turn =
+  begun_as outcomes x leads None after turn =
       let n = length outcomes in
       let jn = noted_rounds j worker gc outcomes in
       let none : n ≡ n + 0 = omega arith in
@@ -237,9 +236,9 @@ module _ (s : Loaded) (j : JournalValue) (k : ℕ) (is : IsOf s j k) (stops : St
     pub past : LeadsPast stops v worker gc rounds (recorded after noted)
     pub workers : noted.workers ≡ j.workers
 
-  if-workers : (x : JournalValue) (begun : Bool) → (noted_if x worker begun).workers ≡ x.workers
-  if-workers x true = refl
-  if-workers x false = refl
+  if-workers : (x : JournalValue) (last : Option Outcome) → (noted_if x worker last).workers ≡ x.workers
+  if-workers x (Some outcome) = refl
+  if-workers x None = refl
 
   pub enters : (rounds : Rounds) (after : Loaded) (noted : JournalValue)
       → LeadsThrough s k stops worker gc j rounds after noted → Enters rounds after noted
@@ -247,27 +246,31 @@ module _ (s : Loaded) (j : JournalValue) (k : ℕ) (is : IsOf s j k) (stops : St
       let outcomes = through.outcomes in
       let x = through.led.0 in
       let on = leads outcomes x through.led.1 in
-      let last = begun_as outcomes x on rounds.begun after through.led.2 in
+      let last = begun_as outcomes x on through.last after through.led.2 in
       let jn = noted_rounds j worker gc outcomes in
       let next = start_after k 0 (rounds.made + (if rounds.begun then 1 else 0)) in
       record {
         joined =
             subst (λ (y : JournalValue). IsOf after y next) (sym through.noted)
-            (subst (λ (n : ℕ). IsOf after (noted_if jn worker rounds.begun)
-            (start_after k 0 (n + (if rounds.begun then 1 else 0)))) through.count last.joined);
+            (subst (λ b. IsOf after (noted_if jn worker through.last)
+            (start_after k 0 (rounds.made + (if b then 1 else 0)))) through.begun
+            (subst (λ (n : ℕ). IsOf after (noted_if jn worker through.last)
+            (start_after k 0 (n + (if is_some through.last then 1 else 0)))) through.count last.joined));
         into = (
           recorded x jn,
           subst (λ (n : ℕ). LeadsOn v worker gc n (recorded x jn)) through.count on.on,
-          subst (λ (y : JournalValue). PickedIf (recorded x jn) worker rounds.begun (recorded after y))
-              (sym through.noted) last.into,
+          subst (λ b. PickedIf (recorded x jn) worker b (recorded after noted)) through.begun
+              (subst (λ (y : JournalValue). PickedIf (recorded x jn) worker (is_some through.last) (recorded after y))
+              (sym through.noted) last.into),
         );
         past = (
           recorded x jn,
           subst (λ (n : ℕ). RoundsPast stops v worker gc n (recorded x jn)) through.count on.past,
-          subst (λ (y : JournalValue). PickedPast stops (recorded x jn) worker rounds.begun (recorded after y))
-              (sym through.noted) last.past,
+          subst (λ b. PickedPast stops (recorded x jn) worker b (recorded after noted)) through.begun
+              (subst (λ (y : JournalValue). PickedPast stops (recorded x jn) worker (is_some through.last)
+              (recorded after y)) (sym through.noted) last.past),
         );
-        workers = ap (λ (y : JournalValue). y.workers) through.noted ∙ if-workers jn rounds.begun
+        workers = ap (λ (y : JournalValue). y.workers) through.noted ∙ if-workers jn through.last
             ∙ rounds-workers j worker gc outcomes;
       }
 

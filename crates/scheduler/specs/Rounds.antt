@@ -1,5 +1,5 @@
 -- Rounds of a world: a turn of the thread that is picked, and after it turns of the collector.
-use Rattle.std.specs.Prelude.{◌≡◌, ◌+◌, ◌≤◌, ℕ, zero, suc, Bool, true, false, Option, IfSome, Some, None, if◌then◌else◌}
+use Rattle.std.specs.Prelude.{◌≡◌, ◌≢◌, ◌+◌, ◌≤◌, ℕ, zero, suc, Bool, true, false, Option, IfSome, Some, None, if◌then◌else◌}
 use Rattle.model.specs.declared.journals.Outcome.TheVariants.{Done as DoneOutcome}
 use Rattle.model.specs.declared.journals.Row.{Row}
 use Rattle.model.specs.declared.turns.Actor.TheVariants.{Thread, Collector}
@@ -7,6 +7,7 @@ use Rattle.model.specs.declared.turns.Turn.{Turn}
 use Rattle.model.specs.declared.turns.Turn.TheVariants.{Done, NotReady, Stopped, Fault, OutputFull, StepLimit}
 use Rattle.model.specs.Machines.{Recorded, after_turn_by, answer_to}
 use Rattle.model.specs.Observers.{ideal, is_running, pick_of, place_of, status_of}
+use Rattle.model.specs.Ready.{is_ready}
 use Rattle.instructions.specs.declared.lone_rounds.Rounds.{Rounds}
 use Rattle.instructions.specs.declared.stops.Stops.{Stops}
 use Rattle.instructions.specs.Stops.{is_stop}
@@ -120,6 +121,10 @@ PickedPast stops v worker false w = w ≡ v
 abbrev pub LeadsPast : Stops → Recorded → ℕ → ℕ → Rounds → Recorded → Type 0
 LeadsPast stops v worker gc rounds w = (x : Recorded) × RoundsPast stops v worker gc rounds.made x
     × PickedPast stops x worker rounds.begun w
+
+-- no thread but one becomes ready, or ceases to be
+abbrev pub LeavesOthersReady : Recorded → ℕ → Recorded → Type 0
+LeavesOthersReady v t w = (u : ℕ) → u ≢ t → is_ready w.program (ideal w) u ≡ is_ready v.program (ideal v) u
 
 -- so many whole rounds, and of one more the thread's turn, or not
 abbrev pub LeadsInto : Recorded → ℕ → ℕ → Rounds → Recorded → Type 0

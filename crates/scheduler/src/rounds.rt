@@ -1,12 +1,9 @@
 //! Rounds: the turns of the threads that are picked, and the collector's between them.
-ghost use Rattle.std.specs.Prelude.{◌≡◌, ◌<◌, ◌≤◌, ◌+◌, nat_le, true};
-ghost use Rattle.model.specs.Observers.{ideal, is_running, status_of};
-ghost use Rattle.instructions.specs.Idle.{AreIdle};
-ghost use Rattle.scheduler.specs.Rounds.{LeadsInto, LeadsPast, PickedPast, after_round, after_rounds, collections, is_done};
+ghost use Rattle.std.specs.Prelude.{◌≡◌, ◌<◌, ◌≤◌, true};
+ghost use Rattle.scheduler.specs.Rounds.{LeadsInto, LeadsPast, after_round, after_rounds, collections, is_done};
 ghost use Rattle.scheduler.specs.Rounds.{picked, picked_answer, rounds_answer, rounds_left, swept};
 
 use crate::worlds::World;
-use instructions::idle::Idle;
 use instructions::lone_rounds::Rounds;
 use instructions::noted_rounds::Pace;
 use instructions::stops::{Stops, no_stops};
@@ -46,20 +43,6 @@ impl World {
         }
     }
 
-    /// The same, where one look at the thread's step may serve.
-    #[inline(always)]
-    fn turn_by_look(&mut self, worker: u8) -> Turn
-        requires { worker < self.old.journal.workers }
-        ensures world { self.new ≡ picked self.old worker }
-        ensures answer { result ≡ picked_answer self.old worker }
-    {
-        if self.turn_of_first(worker, no_stops()) {
-            Turn::Done
-        } else {
-            self.turn_of_ready(worker)
-        }
-    }
-
     /// The turn of the thread that is picked, made by a worker; `NotReady` where none is.
     #[inline(always)]
     pub fn turn_of_picked(&mut self, worker: u8) -> Turn
@@ -67,23 +50,12 @@ impl World {
         ensures world { self.new ≡ picked self.old worker }
         ensures answer { result ≡ picked_answer self.old worker }
     {
-        if self.rounds_in_turn(worker, no_stops(), &mut Idle::none(), 1) > 0 {
+        let (gc, stops) = (0, no_stops());
+        let rounds = self.rounds_in_turn(Pace { worker, gc, stops }, false, 1);
+        if rounds.made > 0 {
             Turn::Done
         } else {
-            self.turn_by_look(worker)
-        }
-    }
-
-    /// The same, where `some_rounds` didn't make it: with several threads it asked for one look at the step.
-    fn turn_after_some(&mut self, worker: u8) -> Turn
-        requires { worker < self.old.journal.workers }
-        ensures world { self.new ≡ picked self.old worker }
-        ensures answer { result ≡ picked_answer self.old worker }
-    {
-        if self.thread_count() > 1 {
             self.turn_of_ready(worker)
-        } else {
-            self.turn_by_look(worker)
         }
     }
 
@@ -98,7 +70,7 @@ impl World {
         }
     }
 
-    /// The same where the world runs.
+    /// So many turns of the collector by a worker, where the world runs.
     fn sweep(&mut self, worker: u8, gc: u32)
         requires { worker < self.old.journal.workers }
         ensures world { self.new ≡ swept self.old worker gc }
@@ -116,7 +88,7 @@ impl World {
         ensures answer { result ≡ picked_answer self.old worker }
         ensures workers { self.new.journal.workers ≡ self.old.journal.workers }
     {
-        let answer = self.turn_after_some(worker);
+        let answer = self.turn_of_ready(worker);
         if is_done(answer) {
             self.sweep(worker, gc);
         }
@@ -139,7 +111,7 @@ impl World {
                 let answer = Turn::Done;
                 return RoundsMade { answer, left };
             }
-            let answer = self.turn_by_look(worker);
+            let answer = self.turn_of_ready(worker);
             if !is_done(answer) {
                 return RoundsMade { answer, left };
             }
@@ -160,7 +132,7 @@ impl World {
         let stops = no_stops();
         let pace = Pace { worker, gc, stops };
         if self.thread_count() > 1 {
-            self.rounds_one_by_one(pace, most)
+            self.rounds_in_turn(pace, true, most)
         } else {
             self.rounds_at_pace(pace, most)
         }
@@ -195,64 +167,6 @@ impl World {
         }
     }
 
-    /// The turn of the thread that is picked, made by a worker, where it stands at no stop and one look at its step
-    /// serves. Answers whether it was made: it is done then. If not, nothing changes. Threads that are known not to be
-    /// ready aren't asked.
-    fn turn_past(&mut self, worker: u8, stops: Stops<'_>, idle: &mut Idle) -> bool
-        requires worker { worker < self.old.journal.workers }
-        requires idle { AreIdle self.old.program (ideal self.old) idle.old }
-        ensures turn { PickedPast stops.entry self.old worker result self.new }
-        ensures idle { AreIdle self.new.program (ideal self.new) idle.new }
-        ensures workers { self.new.journal.workers ≡ self.old.journal.workers }
-    {
-        if self.rounds_in_turn(worker, stops, idle, 1) > 0 {
-            return true;
-        }
-        *idle = Idle::none();
-        self.turn_of_first(worker, stops)
-    }
-
-    /// Whether the journal has room for so many rows more.
-    fn has_room(&self, rows: u32) -> bool
-        ensures { result ≡ nat_le ((ideal self.now).rows + rows) self.now.journal.limits.steps }
-    {
-        let most = self.journal().limits().steps;
-        u64::from(self.rows()) + u64::from(rows) <= u64::from(most)
-    }
-
-    /// Whether the world runs, and the journal has room for so many turns of the collector.
-    fn may_sweep(&self, gc: u32) -> bool
-        ensures runs { result ≡ true → is_running (status_of self.now) ≡ true }
-        ensures room { result ≡ true → (ideal self.now).rows + gc ≤ self.now.journal.limits.steps }
-    {
-        self.runs() && self.has_room(gc)
-    }
-
-    /// Rounds at a pace, one after another and so many at most, whose thread's turn is made as `turn_past` makes it. Of
-    /// the last one, maybe, the thread's turn alone.
-    fn rounds_one_by_one(&mut self, pace: Pace<'_>, most: u32) -> Rounds
-        requires { pace.worker < self.old.journal.workers }
-        ensures rounds { LeadsPast pace.entry.stops self.old pace.entry.worker pace.entry.gc result self.new }
-        ensures most { result.made ≤ most }
-        ensures begun { result.begun ≡ true → result.made < most }
-        ensures workers { self.new.journal.workers ≡ self.old.journal.workers }
-    {
-        let mut idle = Idle::none();
-        for made in 0..most {
-            if !self.turn_past(pace.worker, pace.stops, &mut idle) {
-                return Rounds { made, begun: false };
-            }
-            if !self.may_sweep(pace.gc) {
-                return Rounds { made, begun: true };
-            }
-            self.collect(pace.worker, pace.gc);
-        }
-        Rounds {
-            made: most,
-            begun: false,
-        }
-    }
-
     /// How many rounds may be made one by one before many in one call are tried again: one where one thread was ever
     /// started, else so many.
     fn most_one_by_one(&self, most: u32) -> u32
@@ -281,7 +195,7 @@ impl World {
             return rounds;
         }
         let few = self.most_one_by_one(most);
-        self.rounds_one_by_one(pace, few)
+        self.rounds_in_turn(pace, true, few)
     }
 
     /// So many rounds by a worker, and what they came to.
@@ -319,7 +233,7 @@ impl World {
         self.make_rounds_by(worker, n, gc).answer
     }
 
-    /// The same by worker 0.
+    /// So many rounds by worker 0, as `rounds_by` makes them.
     pub fn rounds(&mut self, n: u32, gc: u32) -> Turn
         ensures world { self.new ≡ after_rounds self.old 0 gc n }
         ensures answer { result ≡ rounds_answer self.old 0 gc n }

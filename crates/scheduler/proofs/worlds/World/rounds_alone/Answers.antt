@@ -13,25 +13,25 @@ rounds-preserved c =
     let made = c.rounds_plainly-made.result in
     let left = at.left - made in
     let next : left ≡ suc (left - 1) = omega (arith, c.if-left-eq0.false) in
-    let done = ap is_done (sym c.turn_by_look-answer.ensures.answer) ∙ sym c.is_done.ensures ∙ c.if-not-is_done.false in
-    let workers = ap (λ (v : Recorded). v.journal.workers) c.turn_by_look-answer.ensures.world ∙ workers-picked mid w
+    let done = ap is_done (sym c.turn_of_ready-answer.ensures.answer) ∙ sym c.is_done.ensures ∙ c.if-not-is_done.false in
+    let workers = ap (λ (v : Recorded). v.journal.workers) c.turn_of_ready-answer.ensures.world ∙ workers-picked mid w
     ∙ c.rounds_plainly-made.ensures.workers in
     record {
       known = omega (arith, workers, at.invariant.known);
       world =
-          ap (λ (v : Recorded). after_rounds v w 0 (left - 1)) c.turn_by_look-answer.ensures.world
+          ap (λ (v : Recorded). after_rounds v w 0 (left - 1)) c.turn_of_ready-answer.ensures.world
           ∙ sym (world-first mid w left (left - 1) next true done)
           ∙ sym (world-left at.self mid w 0 made at.left c.rounds_plainly-made.ensures.rounds
           c.rounds_plainly-made.ensures.most)
           ∙ at.invariant.world;
       answer =
-          ap (λ (v : Recorded). rounds_answer v w 0 (left - 1)) c.turn_by_look-answer.ensures.world
+          ap (λ (v : Recorded). rounds_answer v w 0 (left - 1)) c.turn_of_ready-answer.ensures.world
           ∙ sym (answer-first mid w left (left - 1) next true done)
           ∙ sym (answer-left at.self mid w 0 made at.left c.rounds_plainly-made.ensures.rounds
           c.rounds_plainly-made.ensures.most)
           ∙ at.invariant.answer;
       left =
-          ap (λ (v : Recorded). rounds_left v w 0 (left - 1)) c.turn_by_look-answer.ensures.world
+          ap (λ (v : Recorded). rounds_left v w 0 (left - 1)) c.turn_of_ready-answer.ensures.world
           ∙ sym (left-first mid w left (left - 1) next true done)
           ∙ sym (left-left at.self mid w 0 made at.left c.rounds_plainly-made.ensures.rounds
           c.rounds_plainly-made.ensures.most)
@@ -77,8 +77,8 @@ returns-then-not-is_done-clause-world c =
     let made = c.rounds_plainly-made.result in
     let left = at.left - made in
     let next : left ≡ suc (left - 1) = omega (arith, c.if-left-eq0.false) in
-    let done = ap is_done (sym c.turn_by_look-answer.ensures.answer) ∙ sym c.is_done.ensures ∙ c.if-not-is_done.true in
-    c.turn_by_look-answer.ensures.world
+    let done = ap is_done (sym c.turn_of_ready-answer.ensures.answer) ∙ sym c.is_done.ensures ∙ c.if-not-is_done.true in
+    c.turn_of_ready-answer.ensures.world
     ∙ sym (world-first mid w left (left - 1) next false done)
     ∙ sym (world-left at.self mid w 0 made at.left c.rounds_plainly-made.ensures.rounds
     c.rounds_plainly-made.ensures.most)
@@ -92,8 +92,8 @@ returns-then-not-is_done-clause-answer c =
     let made = c.rounds_plainly-made.result in
     let left = at.left - made in
     let next : left ≡ suc (left - 1) = omega (arith, c.if-left-eq0.false) in
-    let done = ap is_done (sym c.turn_by_look-answer.ensures.answer) ∙ sym c.is_done.ensures ∙ c.if-not-is_done.true in
-    c.turn_by_look-answer.ensures.answer
+    let done = ap is_done (sym c.turn_of_ready-answer.ensures.answer) ∙ sym c.is_done.ensures ∙ c.if-not-is_done.true in
+    c.turn_of_ready-answer.ensures.answer
     ∙ sym (answer-first mid w left (left - 1) next false done)
     ∙ sym (answer-left at.self mid w 0 made at.left c.rounds_plainly-made.ensures.rounds
     c.rounds_plainly-made.ensures.most)
@@ -107,7 +107,7 @@ returns-then-not-is_done-clause-left c =
     let made = c.rounds_plainly-made.result in
     let left = at.left - made in
     let next : left ≡ suc (left - 1) = omega (arith, c.if-left-eq0.false) in
-    let done = ap is_done (sym c.turn_by_look-answer.ensures.answer) ∙ sym c.is_done.ensures ∙ c.if-not-is_done.true in
+    let done = ap is_done (sym c.turn_of_ready-answer.ensures.answer) ∙ sym c.is_done.ensures ∙ c.if-not-is_done.true in
     sym (left-first mid w left (left - 1) next false done)
     ∙ sym (left-left at.self mid w 0 made at.left c.rounds_plainly-made.ensures.rounds
     c.rounds_plainly-made.ensures.most)

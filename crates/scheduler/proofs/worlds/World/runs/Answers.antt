@@ -8,5 +8,5 @@ pub returns : goal.returns
 returns c =
     let a = c.self.inside in
     c.is_some.ensures ∙ ap is_some c.next_ready.ensures
-    ∙ running_from a.state.program a.state.machine.world c.saturating_sub.result
+    ∙ running_from a.state.program a.state.machine.world a.next
     ∙ rw (← c.self.view_is) (ap is_running (back a.state a.journal a.next c.self.invariant).status)
