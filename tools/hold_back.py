@@ -6,7 +6,7 @@
 For .ci/run. PID is `rt ci`, which starts as many checks as it's told, whatever they need. Mostly four fit; those of the crates at
 the top don't. Each two seconds this looks at the free memory. Where it's short, a check is stopped, but for the last two: the
 youngest of those whose crate no other waits for, or else of all. It goes on once there is enough again, or fewer than two others
-are left. It says so on standard output, and ends with PID.
+are left. It says so on standard output, and ends with PID. In the end it tells how little memory and disk were free.
 """
 import os
 import signal
@@ -31,6 +31,12 @@ def free():
     """The free memory in kB, what the disk's pages may give back with it."""
     with open("/proc/meminfo", encoding="ascii") as file:
         return next(int(line.split()[1]) for line in file if line.startswith("MemAvailable:"))
+
+
+def disk():
+    """The free disk in kB, where this checkout is."""
+    room = os.statvfs(os.path.dirname(CRATES))
+    return room.f_bavail * room.f_frsize // 1024
 
 
 def processes():
@@ -90,13 +96,15 @@ def choose(begun, held, room, needed):
     return None, None
 
 
-def watch(of, held):
-    """Looks until a process has ended; held: the checks that are stopped."""
+def watch(of, held, least):
+    """Looks until a process has ended; held: the checks that are stopped; least: the least free memory and disk in kB."""
     needed = used()
     while of in (found := processes()):
         begun = checks(of, found)
         held[:] = [it for it in held if it in begun]
-        stops, goes = choose(begun, held, free(), needed)
+        room = free()
+        least[:] = [min(least[0], room), min(least[1], disk())]
+        stops, goes = choose(begun, held, room, needed)
         if stops:
             held.append(stops)
             tell(begun[stops], signal.SIGSTOP)
@@ -114,10 +122,11 @@ def main():
         print(__doc__)
         return 2
     signal.signal(signal.SIGTERM, lambda number, _: sys.exit(128 + number))
-    of, held = int(sys.argv[1]), []
+    of, held, least = int(sys.argv[1]), [], [free(), disk()]
     try:
-        watch(of, held)
+        watch(of, held, least)
     finally:
+        print(f"free at the least: {least[0] // 1000} MB of memory, {least[1] // 1000} MB of the disk", flush=True)
         begun = checks(of, processes())
         for it in held:
             tell(begun.get(it, []), signal.SIGCONT)

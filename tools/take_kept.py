@@ -8,7 +8,7 @@ check` keeps work, and proves what is below once more. So on a new machine the c
 by `rt ci`, and taken from there: the crates above them can then be checked. A library fits only over those that it was built
 over: what is below a crate has to be taken with it or before. The kit drops from what it keeps a library that can't be
 given, so one that is named over others that were built anew has to be proved again. It calls parts of the kit that its
-authors may change.
+authors may change: `rt ci` of `rattle-kit-13f` keeps libraries, that of `rattle-kit-13b` keeps none.
 """
 import os
 import sys
@@ -19,14 +19,10 @@ HERE = os.path.dirname(os.path.dirname(os.path.abspath(__file__)))
 
 
 def crates_here(rt):
+    if not hasattr(rt, "Kept"):
+        sys.exit("the rt ci of this kit keeps no libraries")
     rt.Crate.allowed = rt.handles_of(HERE)
     return rt.crates_of(HERE)
-
-
-def libraries_below(name):
-    """The names of the libraries that a crate stands on, lowest first."""
-    crate = next(it for it in crates_here(module_of_kit("rt")) if it.name == name)
-    return [it.name for it in crate.below()]
 
 
 def give(names, tell=lambda line: None):
