@@ -4,7 +4,7 @@ ghost use Rattle.std.specs.Prelude.{◌≡◌, Some, IfOk};
 ghost use Rattle.model.specs.ClassFiles.References.{text_at as held_text};
 ghost use Rattle.model.specs.Texts.Names.{is_field_name as field_name_test};
 ghost use Rattle.model.specs.Texts.Descriptors.{is_field_descriptor as field_descriptor_test};
-ghost use Rattle.pool.specs.Reading.Steps.{Gives};
+ghost use Rattle.pool.specs.Reading.Steps.{AsksForNone, Gives};
 ghost use Rattle.classfile.specs.Reading.Attributes.{sized_from, text_from, tested_from, none_wanted, no_step};
 ghost use Rattle.classfile.specs.Reading.Attributes.{attribute_from, attributes_from, skipped_from};
 
@@ -22,7 +22,8 @@ pub struct Text<'a> {
 /// The bytes after their number, and those after them. C3 where they pass the end.
 #[tactic(auto, unfolding(crate::specs::Reading::Attributes::sized_from))]
 pub fn sized_at(bytes: &[u8]) -> Result<(&[u8], &[u8]), ReadError>
-    ensures { Gives (λ x. (x.0.now, x.1.now)) result (sized_from bytes.now) }
+    ensures gives { Gives (λ x. (x.0.now, x.1.now)) result (sized_from bytes.now) }
+    ensures memory { AsksForNone result }
 {
     let (len, rest) = u32_at(bytes)?;
     bytes_at(len as usize, rest)
@@ -33,6 +34,7 @@ pub fn sized_at(bytes: &[u8]) -> Result<(&[u8], &[u8]), ReadError>
 pub fn text_at<'a, 'b>(pool: &'a Pool, bytes: &'b [u8]) -> Result<(Text<'a>, &'b [u8]), ReadError>
     ensures gives { Gives (λ x. ((x.0.number, x.0.bytes.now), x.1.now)) result (text_from pool.now bytes.now) }
     ensures held { IfOk result (λ x. held_text pool.now x.0.number ≡ Some x.0.bytes.now) }
+    ensures memory { AsksForNone result }
 {
     let (number, rest) = u16_at(bytes)?;
     match pool.text(number) {
@@ -47,8 +49,9 @@ pub fn field_name_at<'a, 'b>(
     pool: &'a Pool,
     bytes: &'b [u8],
 ) -> Result<(Text<'a>, &'b [u8]), ReadError>
-    ensures { Gives (λ x. ((x.0.number, x.0.bytes.now), x.1.now)) result
+    ensures gives { Gives (λ x. ((x.0.number, x.0.bytes.now), x.1.now)) result
         (tested_from pool.now field_name_test bytes.now) }
+    ensures memory { AsksForNone result }
 {
     let (text, rest) = text_at(pool, bytes)?;
     if pool.is_field_name(text.number) {
@@ -65,8 +68,9 @@ pub fn field_type_at<'a, 'b>(
     pool: &'a Pool,
     bytes: &'b [u8],
 ) -> Result<(Text<'a>, &'b [u8]), ReadError>
-    ensures { Gives (λ x. ((x.0.number, x.0.bytes.now), x.1.now)) result
+    ensures gives { Gives (λ x. ((x.0.number, x.0.bytes.now), x.1.now)) result
         (tested_from pool.now field_descriptor_test bytes.now) }
+    ensures memory { AsksForNone result }
 {
     let (text, rest) = text_at(pool, bytes)?;
     if pool.is_field_descriptor(text.number) {
@@ -79,7 +83,8 @@ pub fn field_type_at<'a, 'b>(
 /// Skips an attribute. C6 where its name is no text, C3 where its bytes pass the end.
 #[tactic(auto, unfolding(crate::specs::Reading::Attributes::attribute_from))]
 fn skip_attribute<'a>(pool: &Pool, bytes: &'a [u8]) -> Result<&'a [u8], ReadError>
-    ensures { Gives (λ x. (0, x.now)) result (attribute_from pool.now none_wanted no_step 0 bytes.now) }
+    ensures gives { Gives (λ x. (0, x.now)) result (attribute_from pool.now none_wanted no_step 0 bytes.now) }
+    ensures memory { AsksForNone result }
 {
     let (_, rest) = text_at(pool, bytes)?;
     let (_, rest) = sized_at(rest)?;
@@ -88,7 +93,8 @@ fn skip_attribute<'a>(pool: &Pool, bytes: &'a [u8]) -> Result<&'a [u8], ReadErro
 
 /// Skips so many attributes.
 fn skip_some<'a>(pool: &Pool, count: u16, bytes: &'a [u8]) -> Result<&'a [u8], ReadError>
-    ensures { Gives (λ x. (0, x.now)) result (attributes_from pool.now none_wanted no_step count 0 bytes.now) }
+    ensures gives { Gives (λ x. (0, x.now)) result (attributes_from pool.now none_wanted no_step count 0 bytes.now) }
+    ensures memory { AsksForNone result }
 {
     let mut rest = bytes;
     for _ in 0..count {
@@ -100,7 +106,8 @@ fn skip_some<'a>(pool: &Pool, count: u16, bytes: &'a [u8]) -> Result<&'a [u8], R
 /// Skips attributes after their count.
 #[tactic(auto, unfolding(crate::specs::Reading::Attributes::skipped_from))]
 pub fn skip_attributes<'a>(pool: &Pool, bytes: &'a [u8]) -> Result<&'a [u8], ReadError>
-    ensures { Gives (λ x. (0, x.now)) result (skipped_from pool.now bytes.now) }
+    ensures gives { Gives (λ x. (0, x.now)) result (skipped_from pool.now bytes.now) }
+    ensures memory { AsksForNone result }
 {
     let (count, rest) = u16_at(bytes)?;
     skip_some(pool, count, rest)

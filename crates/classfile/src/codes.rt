@@ -1,7 +1,7 @@
 //! Code attributes.
 
 ghost use Rattle.std.specs.Prelude.{◌≡◌, ◌++◌, ◌<◌, ◌≤◌, ◌^◌, length, OnOk};
-ghost use Rattle.pool.specs.Reading.Steps.{Gives};
+ghost use Rattle.pool.specs.Reading.Steps.{AsksForNone, Gives};
 ghost use Rattle.classfile.specs.Reading.Answers.{Answers};
 ghost use Rattle.classfile.specs.Reading.Codes as reading;
 ghost use Rattle.classfile.specs.Reading.Codes.{sound_from, limits_from, tail_from, body_from, code_from};
@@ -54,7 +54,8 @@ struct Limits<'a> {
 /// The limits and the bytes of the code.
 #[tactic(auto, unfolding(crate::specs::Reading::Codes::limits_from))]
 fn limits_at(bytes: &[u8]) -> Result<(Limits<'_>, &[u8]), ReadError>
-    ensures { Gives (λ x. (((x.0.max_stack, x.0.max_locals), x.0.code.now), x.1.now)) result (limits_from bytes.now) }
+    ensures gives { Gives (λ x. (((x.0.max_stack, x.0.max_locals), x.0.code.now), x.1.now)) result (limits_from bytes.now) }
+    ensures memory { AsksForNone result }
 {
     let (max_stack, rest) = u16_at(bytes)?;
     let (max_locals, rest) = u16_at(rest)?;

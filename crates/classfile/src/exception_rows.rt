@@ -3,7 +3,7 @@
 ghost use Rattle.std.specs.Prelude.{◌≡◌, ◌++◌, OnOk};
 ghost use Rattle.std.specs.List.{flat_map};
 ghost use Rattle.model.specs.ClassFiles.Codes.{row_bytes};
-ghost use Rattle.pool.specs.Reading.Steps.{Gives};
+ghost use Rattle.pool.specs.Reading.Steps.{AsksForNone, Gives};
 ghost use Rattle.classfile.specs.Reading.Codes.{row_from};
 ghost use Rattle.classfile.specs.Reading.Lists.{repeated, list_from};
 
@@ -35,7 +35,8 @@ impl Model for CodeRow {
 /// A row of an exception table. C6 where its class is no class's number and not 0.
 #[tactic(auto, unfolding(crate::specs::Reading::Codes::row_from))]
 fn row_at<'a>(pool: &Pool, bytes: &'a [u8]) -> Result<(CodeRow, &'a [u8]), ReadError>
-    ensures { Gives (λ x. (x.0, x.1.now)) result (row_from pool.now bytes.now) }
+    ensures gives { Gives (λ x. (x.0, x.1.now)) result (row_from pool.now bytes.now) }
+    ensures memory { AsksForNone result }
 {
     let (start, rest) = u16_at(bytes)?;
     let (end, rest) = u16_at(rest)?;

@@ -5,7 +5,7 @@ ghost use Rattle.std.specs.Option.{option_copied};
 ghost use Rattle.model.specs.Texts.Flags.{has};
 ghost use Rattle.model.specs.ClassFiles.Fields as definition;
 ghost use Rattle.model.specs.ClassFiles.Fields.{field_bytes};
-ghost use Rattle.pool.specs.Reading.Steps.{Gives};
+ghost use Rattle.pool.specs.Reading.Steps.{AsksForNone, Gives};
 ghost use Rattle.classfile.specs.Reading.Attributes.{attribute_from, attributes_from};
 ghost use Rattle.classfile.specs.Reading.Fields.{value_of, constant_from, constants_from, field_flags_from, field_from};
 
@@ -42,7 +42,8 @@ pub fn is_value_of(text: &[u8], entry: Option<&Entry>) -> bool
 /// another kind than the field's type wants.
 #[tactic(auto, unfolding(crate::specs::Reading::Fields::value_of))]
 fn value_in(pool: &Pool, text: &[u8], info: &[u8]) -> Result<u16, ReadError>
-    ensures { Gives (λ x. x) result (value_of pool.now text.now info.now) }
+    ensures gives { Gives (λ x. x) result (value_of pool.now text.now info.now) }
+    ensures memory { AsksForNone result }
 {
     if info.len() != 2 {
         return Err(ReadError::Format(FormatFault::Attribute));
@@ -64,7 +65,8 @@ fn constant_of<'a>(
     name: u16,
     bytes: &'a [u8],
 ) -> Result<(Option<ConstantValue>, &'a [u8]), ReadError>
-    ensures { Gives (λ x. (x.0, x.1.now)) result (constant_from pool.now text.now before name bytes.now) }
+    ensures gives { Gives (λ x. (x.0, x.1.now)) result (constant_from pool.now text.now before name bytes.now) }
+    ensures memory { AsksForNone result }
 {
     if before.is_some() {
         return Err(ReadError::Format(FormatFault::Attribute));
@@ -77,7 +79,8 @@ fn constant_of<'a>(
 /// The flags of a field in a class of these flags. C11 where they don't go together.
 #[tactic(auto, unfolding(crate::specs::Reading::Fields::field_flags_from))]
 fn field_flags_at(class: u16, bytes: &[u8]) -> Result<(u16, &[u8]), ReadError>
-    ensures { Gives (λ x. (x.0, x.1.now)) result (field_flags_from class bytes.now) }
+    ensures gives { Gives (λ x. (x.0, x.1.now)) result (field_flags_from class bytes.now) }
+    ensures memory { AsksForNone result }
 {
     let (flags, rest) = u16_at(bytes)?;
     if are_field_flags(class, flags) {
@@ -103,9 +106,10 @@ fn attribute_of<'a>(
     before: Option<ConstantValue>,
     bytes: &'a [u8],
 ) -> Result<(Option<ConstantValue>, &'a [u8]), ReadError>
-    ensures { Gives (λ x. (x.0, x.1.now)) result
+    ensures gives { Gives (λ x. (x.0, x.1.now)) result
         (attribute_from pool.now (definition.is_constant_value is_static)
         (constant_from pool.now text.now) before bytes.now) }
+    ensures memory { AsksForNone result }
 {
     let (name, rest) = text_at(pool, bytes)?;
     if is_constant_value(is_static, name.bytes) {
@@ -124,9 +128,10 @@ fn attributes_of<'a>(
     count: u16,
     bytes: &'a [u8],
 ) -> Result<(Option<ConstantValue>, &'a [u8]), ReadError>
-    ensures { Gives (λ x. (x.0, x.1.now)) result
+    ensures gives { Gives (λ x. (x.0, x.1.now)) result
         (attributes_from pool.now (definition.is_constant_value is_static)
         (constant_from pool.now text.now) count None bytes.now) }
+    ensures memory { AsksForNone result }
 {
     let mut found = None;
     let mut rest = bytes;
@@ -146,7 +151,8 @@ fn constants_of<'a>(
     text: &[u8],
     bytes: &'a [u8],
 ) -> Result<(Option<ConstantValue>, &'a [u8]), ReadError>
-    ensures { Gives (λ x. (x.0, x.1.now)) result (constants_from pool.now is_static text.now bytes.now) }
+    ensures gives { Gives (λ x. (x.0, x.1.now)) result (constants_from pool.now is_static text.now bytes.now) }
+    ensures memory { AsksForNone result }
 {
     let (count, rest) = u16_at(bytes)?;
     attributes_of(pool, is_static, text, count, rest)
@@ -165,7 +171,8 @@ pub fn field_of<'a>(
     class: u16,
     bytes: &'a [u8],
 ) -> Result<(FieldEntry, &'a [u8]), ReadError>
-    ensures { Gives (λ x. (x.0, x.1.now)) result (field_from pool.now class bytes.now) }
+    ensures gives { Gives (λ x. (x.0, x.1.now)) result (field_from pool.now class bytes.now) }
+    ensures memory { AsksForNone result }
 {
     let (flags, rest) = field_flags_at(class, bytes)?;
     let (name, rest) = field_name_at(pool, rest)?;

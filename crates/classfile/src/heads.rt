@@ -8,7 +8,7 @@ ghost use Rattle.model.specs.ClassFiles.Heads.{HeadPart, IsHead, SpellsHead, aft
 ghost use Rattle.model.specs.ClassFiles.Heads as definition;
 ghost use Rattle.model.specs.ClassFiles.Pools.{PoolFits};
 ghost use Rattle.model.specs.ClassFiles.References.{AreSound};
-ghost use Rattle.pool.specs.Reading.Steps.{Gives};
+ghost use Rattle.pool.specs.Reading.Steps.{AsksForNone, Gives};
 ghost use Rattle.classfile.specs.Reading.Fields.{field_from};
 ghost use Rattle.classfile.specs.Reading.Lists.{repeated, list_from};
 ghost use Rattle.classfile.specs.Reading.Heads.{class_flags_from, class_from, after_from, head_from};
@@ -64,7 +64,8 @@ fn are_class_flags(flags: u16) -> bool
 /// The flags of a class. C11 where they don't go together.
 #[tactic(auto, unfolding(crate::specs::Reading::Heads::class_flags_from))]
 fn class_flags_at(bytes: &[u8]) -> Result<(u16, &[u8]), ReadError>
-    ensures { Gives (λ x. (x.0, x.1.now)) result (class_flags_from bytes.now) }
+    ensures gives { Gives (λ x. (x.0, x.1.now)) result (class_flags_from bytes.now) }
+    ensures memory { AsksForNone result }
 {
     let (flags, rest) = u16_at(bytes)?;
     if are_class_flags(flags) {
@@ -87,7 +88,8 @@ pub fn is_class(pool: &Pool, number: u16) -> bool
 /// The number of a class that is no array. C6 where it is another's.
 #[tactic(auto, unfolding(crate::specs::Reading::Heads::class_from))]
 fn class_at<'a>(pool: &Pool, bytes: &'a [u8]) -> Result<(u16, &'a [u8]), ReadError>
-    ensures { Gives (λ x. (x.0, x.1.now)) result (class_from pool.now bytes.now) }
+    ensures gives { Gives (λ x. (x.0, x.1.now)) result (class_from pool.now bytes.now) }
+    ensures memory { AsksForNone result }
 {
     let (number, rest) = u16_at(bytes)?;
     if is_class(pool, number) {

@@ -6,7 +6,7 @@ ghost use Rattle.model.specs.Texts.Flags.{has};
 ghost use Rattle.model.specs.ClassFiles.Attributes.{attributes_bytes, passes};
 ghost use Rattle.model.specs.ClassFiles.References.{text_at as held_text};
 ghost use Rattle.model.specs.ClassFiles.Methods as definition;
-ghost use Rattle.pool.specs.Reading.Steps.{Gives};
+ghost use Rattle.pool.specs.Reading.Steps.{AsksForNone, Gives};
 ghost use Rattle.classfile.specs.Reading.Answers.{Answers};
 ghost use Rattle.classfile.specs.Reading.Attributes.{tested_from, attribute_from, attributes_from};
 ghost use Rattle.classfile.specs.Reading.Methods as reading;
@@ -59,7 +59,8 @@ pub fn are_method_flags(class: u16, flags: u16) -> bool
 /// The flags of a method in a class of these flags. C11 where they don't go together.
 #[tactic(auto, unfolding(crate::specs::Reading::Methods::method_flags_from))]
 fn method_flags_at(class: u16, bytes: &[u8]) -> Result<(u16, &[u8]), ReadError>
-    ensures { Gives (λ x. (x.0, x.1.now)) result (method_flags_from class bytes.now) }
+    ensures gives { Gives (λ x. (x.0, x.1.now)) result (method_flags_from class bytes.now) }
+    ensures memory { AsksForNone result }
 {
     let (flags, rest) = u16_at(bytes)?;
     if are_method_flags(class, flags) {
@@ -93,8 +94,9 @@ fn method_name_at<'a, 'b>(
     pool: &'a Pool,
     bytes: &'b [u8],
 ) -> Result<(Text<'a>, &'b [u8]), ReadError>
-    ensures { Gives (λ x. ((x.0.number, x.0.bytes.now), x.1.now)) result
+    ensures gives { Gives (λ x. ((x.0.number, x.0.bytes.now), x.1.now)) result
         (tested_from pool.now method_name_test bytes.now) }
+    ensures memory { AsksForNone result }
 {
     let (text, rest) = text_at(pool, bytes)?;
     if pool.is_method_name(text.number) {
@@ -112,8 +114,9 @@ fn method_type_at<'a, 'b>(
     is_static: bool,
     bytes: &'b [u8],
 ) -> Result<(Text<'a>, &'b [u8]), ReadError>
-    ensures { Gives (λ x. ((x.0.number, x.0.bytes.now), x.1.now)) result
+    ensures gives { Gives (λ x. ((x.0.number, x.0.bytes.now), x.1.now)) result
         (tested_from pool.now (method_type_test is_static) bytes.now) }
+    ensures memory { AsksForNone result }
 {
     let (text, rest) = text_at(pool, bytes)?;
     if is_method_type(pool, is_static, text.number) {

@@ -7,6 +7,7 @@ ghost use Rattle.std.specs.List.{AllByRecursion, flat_map};
 ghost use Rattle.model.specs.Bytecode.Fields.{signed, offset};
 ghost use Rattle.model.specs.Bytecode.Operands.{table_operands, lookup_operands};
 ghost use Rattle.model.specs.Bytecode.Ranges.{AreRising, TableFits, LookupFits};
+ghost use Rattle.opcodes.specs.Reading.Steps.{AsksForNone};
 ghost use Rattle.opcodes.specs.declared.error.OpError.TheVariants as error;
 
 use crate::error::OpError;
@@ -31,6 +32,7 @@ fn high_of(low: i32, targets: &[u16]) -> Result<i32, OpError>
     ensures ok { IfOk result (λ high. (high ≡ low +ℤ pos (length targets.now) -ℤ pos 1) × (1 ≤ length targets.now)) }
     ensures err { IfErr result (λ e. 1 ≤ length targets.now → FitsSigned w32 (low +ℤ pos (length targets.now) -ℤ pos 1)
         → e ≡ error.Memory) }
+    ensures memory { AsksForNone result }
 {
     let low = i64::from(low);
     let above = (2_147_483_647 - low).unsigned_abs();
@@ -109,6 +111,7 @@ fn put_pairs(out: &mut Vec<u8>, pc: u16, pairs: &[(i32, u16)]) -> Result<(), All
 fn count_of(pairs: &[(i32, u16)]) -> Result<i32, OpError>
     ensures ok { IfOk result (λ count. (count ≡ pos (length pairs.now)) × (length pairs.now < 2 ^ 31)) }
     ensures err { IfErr result (λ e. length pairs.now < 2 ^ 31 → e ≡ error.Memory) }
+    ensures memory { AsksForNone result }
 {
     if pairs.len() > 2_147_483_647 {
         return Err(OpError::Operand);

@@ -1,7 +1,7 @@
 //! Reading an instruction from the front of bytes.
 
 ghost use Rattle.std.specs.Prelude.{◌≡◌};
-ghost use Rattle.opcodes.specs.Reading.Steps.{Gives};
+ghost use Rattle.opcodes.specs.Reading.Steps.{AsksForNone, Gives};
 ghost use Rattle.opcodes.specs.Reading.{by_name, increment_at, interface_at, new_array_at, wide_at, layout_at};
 ghost use Rattle.opcodes.specs.Reading.{instruction_at};
 
@@ -34,7 +34,8 @@ fn named(what: Named, n: u16) -> Instr
 
 #[tactic(auto, unfolding(crate::specs::Reading::increment_at))]
 fn increment(bytes: &[u8]) -> Result<(Instr, &[u8]), OpError>
-    ensures { Gives (λ x. (x.0, x.1.now)) result (increment_at bytes.now) }
+    ensures gives { Gives (λ x. (x.0, x.1.now)) result (increment_at bytes.now) }
+    ensures memory { AsksForNone result }
 {
     let (n, rest) = u8_at(bytes)?;
     let (by, rest) = i8_at(rest)?;
@@ -44,7 +45,8 @@ fn increment(bytes: &[u8]) -> Result<(Instr, &[u8]), OpError>
 
 #[tactic(auto, unfolding(crate::specs::Reading::interface_at))]
 fn interface(bytes: &[u8]) -> Result<(Instr, &[u8]), OpError>
-    ensures { Gives (λ x. (x.0, x.1.now)) result (interface_at bytes.now) }
+    ensures gives { Gives (λ x. (x.0, x.1.now)) result (interface_at bytes.now) }
+    ensures memory { AsksForNone result }
 {
     let (n, rest) = u16_at(bytes)?;
     let (count, rest) = u8_at(rest)?;
@@ -57,7 +59,8 @@ fn interface(bytes: &[u8]) -> Result<(Instr, &[u8]), OpError>
 
 #[tactic(auto, unfolding(crate::specs::Reading::new_array_at))]
 fn new_array(bytes: &[u8]) -> Result<(Instr, &[u8]), OpError>
-    ensures { Gives (λ x. (x.0, x.1.now)) result (new_array_at bytes.now) }
+    ensures gives { Gives (λ x. (x.0, x.1.now)) result (new_array_at bytes.now) }
+    ensures memory { AsksForNone result }
 {
     let (n, rest) = u8_at(bytes)?;
     match primitive(n) {
@@ -68,7 +71,8 @@ fn new_array(bytes: &[u8]) -> Result<(Instr, &[u8]), OpError>
 
 #[tactic(auto, unfolding(crate::specs::Reading::wide_at))]
 fn wide(bytes: &[u8]) -> Result<(Instr, &[u8]), OpError>
-    ensures { Gives (λ x. (x.0, x.1.now)) result (wide_at bytes.now) }
+    ensures gives { Gives (λ x. (x.0, x.1.now)) result (wide_at bytes.now) }
+    ensures memory { AsksForNone result }
 {
     let (opcode, rest) = u8_at(bytes)?;
     match layout(opcode) {

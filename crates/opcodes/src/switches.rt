@@ -1,7 +1,7 @@
 //! Reading branches and switches.
 
 ghost use Rattle.std.specs.Prelude.{◌≡◌, ◌-◌, ◌%◌};
-ghost use Rattle.opcodes.specs.Reading.Steps.{Gives};
+ghost use Rattle.opcodes.specs.Reading.Steps.{AsksForNone, Gives};
 ghost use Rattle.opcodes.specs.Reading.Switches.{landing, branch_at, pad_at, targets_at, table_len, table_at};
 ghost use Rattle.opcodes.specs.Reading.Switches.{rises as rises_of, pairs_at, lookup_at};
 
@@ -25,7 +25,8 @@ fn target(pc: u16, offset: i32) -> u16
 /// A branch at a pc, from the bytes after its opcode.
 #[tactic(auto, unfolding(crate::specs::Reading::Switches::branch_at))]
 pub fn branch(pc: u16, test: Test, bytes: &[u8]) -> Result<(Instr, &[u8]), OpError>
-    ensures { Gives (λ x. (x.0, x.1.now)) result (branch_at pc test bytes.now) }
+    ensures gives { Gives (λ x. (x.0, x.1.now)) result (branch_at pc test bytes.now) }
+    ensures memory { AsksForNone result }
 {
     let (offset, rest) = match test {
         Test::Always(Width::Wide) => i32_at(bytes)?,
@@ -43,7 +44,8 @@ pub fn branch(pc: u16, test: Test, bytes: &[u8]) -> Result<(Instr, &[u8]), OpErr
 
 /// What stands after so many zero bytes. `Switch` where one isn't zero, `Operand` where they end before.
 fn padded(count: u16, bytes: &[u8]) -> Result<&[u8], OpError>
-    ensures { Gives (λ x. x.now) result (pad_at count bytes.now) }
+    ensures gives { Gives (λ x. x.now) result (pad_at count bytes.now) }
+    ensures memory { AsksForNone result }
 {
     let mut rest = bytes;
     for _ in 0..count {

@@ -4,7 +4,7 @@ ghost use Rattle.std.specs.Prelude.{◌≡◌, ◌<◌, ◌^◌, ◌++◌, ◌�
 ghost use Rattle.std.specs.List.{list_all};
 ghost use Rattle.model.specs.ClassFiles.Numbers.{u2};
 ghost use Rattle.model.specs.ClassFiles.Entries.{entry_bytes, EntryFits, is_text_byte};
-ghost use Rattle.pool.specs.Reading.Steps.{Gives};
+ghost use Rattle.pool.specs.Reading.Steps.{AsksForNone, Gives};
 ghost use Rattle.pool.specs.Reading.Entries.{utf8_from, long_from, pair_from, entry_from};
 
 use crate::error::ReadError;
@@ -36,7 +36,8 @@ fn utf8_of(alloc: Global, bytes: &[u8]) -> Result<(Entry, &[u8]), ReadError>
 /// A long, which wants two of the numbers that are left.
 #[tactic(auto, unfolding(crate::specs::Reading::Entries::long_from))]
 fn long_of(left: u16, bytes: &[u8]) -> Result<(Entry, &[u8]), ReadError>
-    ensures { Gives (λ x. (x.0, x.1.now)) result (long_from left bytes.now) }
+    ensures gives { Gives (λ x. (x.0, x.1.now)) result (long_from left bytes.now) }
+    ensures memory { AsksForNone result }
 {
     if left < 2 {
         return Err(ReadError::Format(FormatFault::Index));
@@ -48,7 +49,8 @@ fn long_of(left: u16, bytes: &[u8]) -> Result<(Entry, &[u8]), ReadError>
 /// Two numbers.
 #[tactic(auto, unfolding(crate::specs::Reading::Entries::pair_from))]
 fn pair_of(bytes: &[u8]) -> Result<((u16, u16), &[u8]), ReadError>
-    ensures { Gives (λ x. (x.0, x.1.now)) result (pair_from bytes.now) }
+    ensures gives { Gives (λ x. (x.0, x.1.now)) result (pair_from bytes.now) }
+    ensures memory { AsksForNone result }
 {
     let (first, rest) = u16_at(bytes)?;
     let (second, rest) = u16_at(rest)?;

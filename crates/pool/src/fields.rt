@@ -2,14 +2,15 @@
 
 ghost use Rattle.std.specs.Prelude.{◌≡◌};
 ghost use Rattle.std.specs.Int.{w16, w32, w64};
-ghost use Rattle.pool.specs.Reading.Steps.{Gives, byte_at, number_at, signed_at, taken};
+ghost use Rattle.pool.specs.Reading.Steps.{AsksForNone, Gives, byte_at, number_at, signed_at, taken};
 
 use crate::error::ReadError;
 use model::class_files::FormatFault;
 
 /// The first byte, and those after it. C3 where there is none.
 pub fn u8_at(bytes: &[u8]) -> Result<(u8, &[u8]), ReadError>
-    ensures { Gives (λ x. (x.0, x.1.now)) result (byte_at bytes.now) }
+    ensures gives { Gives (λ x. (x.0, x.1.now)) result (byte_at bytes.now) }
+    ensures memory { AsksForNone result }
 {
     match bytes {
         [] => Err(ReadError::Format(FormatFault::Short)),
@@ -19,7 +20,8 @@ pub fn u8_at(bytes: &[u8]) -> Result<(u8, &[u8]), ReadError>
 
 /// The number in the first two bytes, and the bytes after it. C3 where there are fewer.
 pub fn u16_at(bytes: &[u8]) -> Result<(u16, &[u8]), ReadError>
-    ensures { Gives (λ x. (x.0, x.1.now)) result (number_at w16 bytes.now) }
+    ensures gives { Gives (λ x. (x.0, x.1.now)) result (number_at w16 bytes.now) }
+    ensures memory { AsksForNone result }
 {
     if bytes.len() < 2 {
         return Err(ReadError::Format(FormatFault::Short));
@@ -30,7 +32,8 @@ pub fn u16_at(bytes: &[u8]) -> Result<(u16, &[u8]), ReadError>
 
 /// The number in the first four bytes, and the bytes after it. C3 where there are fewer.
 pub fn u32_at(bytes: &[u8]) -> Result<(u32, &[u8]), ReadError>
-    ensures { Gives (λ x. (x.0, x.1.now)) result (number_at w32 bytes.now) }
+    ensures gives { Gives (λ x. (x.0, x.1.now)) result (number_at w32 bytes.now) }
+    ensures memory { AsksForNone result }
 {
     if bytes.len() < 4 {
         return Err(ReadError::Format(FormatFault::Short));
@@ -42,7 +45,8 @@ pub fn u32_at(bytes: &[u8]) -> Result<(u32, &[u8]), ReadError>
 
 /// The signed number in the first four bytes, and the bytes after it. C3 where there are fewer.
 pub fn i32_at(bytes: &[u8]) -> Result<(i32, &[u8]), ReadError>
-    ensures { Gives (λ x. (x.0, x.1.now)) result (signed_at w32 bytes.now) }
+    ensures gives { Gives (λ x. (x.0, x.1.now)) result (signed_at w32 bytes.now) }
+    ensures memory { AsksForNone result }
 {
     if bytes.len() < 4 {
         return Err(ReadError::Format(FormatFault::Short));
@@ -54,7 +58,8 @@ pub fn i32_at(bytes: &[u8]) -> Result<(i32, &[u8]), ReadError>
 
 /// The signed number in the first eight bytes, and the bytes after it. C3 where there are fewer.
 pub fn i64_at(bytes: &[u8]) -> Result<(i64, &[u8]), ReadError>
-    ensures { Gives (λ x. (x.0, x.1.now)) result (signed_at w64 bytes.now) }
+    ensures gives { Gives (λ x. (x.0, x.1.now)) result (signed_at w64 bytes.now) }
+    ensures memory { AsksForNone result }
 {
     if bytes.len() < 8 {
         return Err(ReadError::Format(FormatFault::Short));
@@ -68,7 +73,8 @@ pub fn i64_at(bytes: &[u8]) -> Result<(i64, &[u8]), ReadError>
 
 /// The first `len` bytes, and those after them. C3 where there are fewer.
 pub fn bytes_at(len: usize, bytes: &[u8]) -> Result<(&[u8], &[u8]), ReadError>
-    ensures { Gives (λ x. (x.0.now, x.1.now)) result (taken len bytes.now) }
+    ensures gives { Gives (λ x. (x.0.now, x.1.now)) result (taken len bytes.now) }
+    ensures memory { AsksForNone result }
 {
     if bytes.len() < len {
         return Err(ReadError::Format(FormatFault::Short));

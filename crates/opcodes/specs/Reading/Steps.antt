@@ -1,6 +1,6 @@
 -- Reading from left to right, with the first fault that is met.
 use Rattle.std.specs.Prelude.{◌≡◌, ℕ, ℤ, List, [], ◌∷◌, length, take, drop, Option, Some, None, Result, Ok, Err, nat_lt}
-use Rattle.std.specs.Prelude.{◌==◌, if◌then◌else◌}
+use Rattle.std.specs.Prelude.{◌≢◌, ◌==◌, IfErr, if◌then◌else◌}
 use Rattle.std.specs.Int.{Width, byte_len, from_be_bytes, cast_signed}
 use Rattle.opcodes.specs.declared.error.OpError.{OpError}
 use Rattle.opcodes.specs.declared.error.OpError.TheVariants as error
@@ -24,6 +24,10 @@ Fails error.Memory read = Unit {0}
 abbrev pub Gives : {X Y : Type 0} → (X → Y) → Result X OpError → Result Y OpError → Type 0
 Gives view (Ok x) read = read ≡ Ok (view x)
 Gives view (Err e) read = Fails e read
+
+-- what asks for no memory doesn't run out of it
+abbrev pub AsksForNone : {X : Type 0} → Result X OpError → Type 0
+AsksForNone result = IfErr result (λ e. e ≢ error.Memory)
 
 -- the entry of a table at a number
 abbrev pub entry_at : {A : Type 0} → List (ℕ × A) → ℕ → Option A

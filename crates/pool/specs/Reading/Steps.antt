@@ -1,5 +1,6 @@
 -- Steps of reading, and fields at the front of bytes.
-use Rattle.std.specs.Prelude.{◌≡◌, ℕ, ℤ, List, [], ◌∷◌, length, take, drop, Result, Ok, Err, nat_lt, if◌then◌else◌}
+use Rattle.std.specs.Prelude.{◌≡◌, ◌≢◌, ℕ, ℤ, List, [], ◌∷◌, length, take, drop, Result, Ok, Err, IfErr, nat_lt}
+use Rattle.std.specs.Prelude.{if◌then◌else◌}
 use Rattle.std.specs.Int.{Width, byte_len, from_be_bytes, cast_signed}
 use Rattle.model.specs.declared.class_files.FormatFault.{FormatFault}
 use Rattle.model.specs.declared.class_files.FormatFault.TheVariants.{Short}
@@ -19,6 +20,10 @@ Fails (error.Format fault) read = read ≡ Err fault
 abbrev pub Gives : {X Y : Type 0} → (X → Y) → Result X ReadError → Result Y FormatFault → Type 0
 Gives view (Ok x) read = read ≡ Ok (view x)
 Gives view (Err e) read = Fails e read
+
+-- what asks for no memory doesn't run out of it
+abbrev pub AsksForNone : {X : Type 0} → Result X ReadError → Type 0
+AsksForNone result = IfErr result (λ e. e ≢ error.Memory)
 
 -- a field is a value, and the bytes after it
 abbrev pub byte_at : List ℕ → Result (ℕ × List ℕ) FormatFault

@@ -6,14 +6,14 @@ use Rattle.classfile.specs.Reading.Fields.{constant_from}
 use Rattle.classfile.proofs.AttributeLoops.{goes_on, ends, is_done}
 use Rattle.classfile.proofs.fields.attributes_of.Goals as goal
 
-pub returns-in_err-constant : goal.returns-in_err-constant
-returns-in_err-constant c =
+pub returns-in_err-constant-clause-gives : goal.returns-in_err-constant-clause-gives
+returns-in_err-constant-clause-gives c =
     let p = err_from_is_err_and c.from_residual.result c.from_residual.ensures.1 in
     rw (p.1, p.2) (ends c.args.pool.now (is_constant_value c.args.is_static)
     (constant_from c.args.pool.now c.args.text.now) c.in_err-constant.field-0.0 c.args.count c.loop.counter
     c.loop.found c.loop.rest.now (attributes_from c.args.pool.now (is_constant_value c.args.is_static)
     (constant_from c.args.pool.now c.args.text.now) c.args.count None c.args.bytes.now) c.loop-test.true
-    c.in_err-constant.ensures c.loop.invariant)
+    c.in_err-constant.ensures.gives c.loop.invariant)
 
 pub loop-preserved : goal.loop-preserved
 loop-preserved c =
@@ -21,10 +21,10 @@ loop-preserved c =
     c.args.count c.loop.counter c.loop.found c.loop.rest.now c.in_ok-constant.constant c.in_ok-constant.after.now
     (attributes_from c.args.pool.now (is_constant_value c.args.is_static)
     (constant_from c.args.pool.now c.args.text.now) c.args.count None c.args.bytes.now) c.loop-test.true
-    c.in_ok-constant.ensures c.loop.invariant
+    c.in_ok-constant.ensures.gives c.loop.invariant
 
-pub returns : goal.returns
-returns c =
+pub returns-clause-gives : goal.returns-clause-gives
+returns-clause-gives c =
     is_done c.args.pool.now (is_constant_value c.args.is_static) (constant_from c.args.pool.now c.args.text.now)
     c.args.count c.loop.counter c.loop.found c.loop.rest.now
     (attributes_from c.args.pool.now (is_constant_value c.args.is_static)

@@ -9,14 +9,14 @@ returns-in_err-field c =
     let p = err_from_is_err_and c.from_residual.result c.from_residual.ensures.1 in
     rw (p.1, p.2) (ends (field_from c.args.pool.now c.args.flags) c.in_err-field.field-0.0 c.loop.fields.items
     c.args.count c.loop.counter c.loop.rest.now (repeated (field_from c.args.pool.now c.args.flags) c.args.count
-    c.args.bytes.now) c.loop-test.true c.in_err-field.ensures c.loop.invariant)
+    c.args.bytes.now) c.loop-test.true c.in_err-field.ensures.gives c.loop.invariant)
 
 pub loop-preserved : goal.loop-preserved
 loop-preserved c =
     rw c.in_ok-push.ensures.items (goes_on (field_from c.args.pool.now c.args.flags) c.loop.fields.items c.args.count
     c.loop.counter c.loop.rest.now c.in_ok-field.field c.in_ok-field.after.now
     (repeated (field_from c.args.pool.now c.args.flags) c.args.count c.args.bytes.now) c.loop-test.true
-    c.in_ok-field.ensures c.loop.invariant)
+    c.in_ok-field.ensures.gives c.loop.invariant)
 
 pub returns : goal.returns
 returns c = is_done (field_from c.args.pool.now c.args.flags) c.loop.fields.items c.args.count c.loop.counter

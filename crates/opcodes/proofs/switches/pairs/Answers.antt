@@ -12,12 +12,12 @@ returns-in_err-key c =
     let p = err_from_is_err_and c.from_residual.result c.from_residual.ensures.1 in
     rw (p.1, p.2) (pairs_end c.in_err-key.field-0.0 c.loop.pairs.items c.args.pc c.loop.before c.args.count
     c.loop.counter c.loop.rest.now (pairs_at c.args.pc None c.args.count c.args.bytes.now) c.loop-test.true
-    c.in_err-key.ensures c.loop.invariant)
+    c.in_err-key.ensures.gives c.loop.invariant)
 
 pub returns-then-not-rises : goal.returns-then-not-rises
 returns-then-not-rises c = pairs_stop c.loop.pairs.items c.args.pc c.loop.before c.args.count c.loop.counter
     c.loop.rest.now c.in_ok-key.key c.in_ok-key.after.now (pairs_at c.args.pc None c.args.count c.args.bytes.now)
-    c.loop-test.true c.in_ok-key.ensures (sym (ap (rises c.loop.before) (to_z-of_z w32 c.in_ok-key.key (search rules)))
+    c.loop-test.true c.in_ok-key.ensures.gives (sym (ap (rises c.loop.before) (to_z-of_z w32 c.in_ok-key.key (search rules)))
     ∙ sym c.rises.ensures ∙ c.if-not-rises.true) c.loop.invariant
 
 pub returns-in_err-offset : goal.returns-in_err-offset
@@ -25,9 +25,9 @@ returns-in_err-offset c =
     let p = err_from_is_err_and c.from_residual-in_err-offset.result c.from_residual-in_err-offset.ensures.1 in
     rw (p.1, p.2) (pairs_break c.in_err-offset.field-0.0 c.loop.pairs.items c.args.pc c.loop.before c.args.count
     c.loop.counter c.loop.rest.now c.in_ok-key.key c.in_ok-key.after.now
-    (pairs_at c.args.pc None c.args.count c.args.bytes.now) c.loop-test.true c.in_ok-key.ensures
+    (pairs_at c.args.pc None c.args.count c.args.bytes.now) c.loop-test.true c.in_ok-key.ensures.gives
     (sym (ap (rises c.loop.before) (to_z-of_z w32 c.in_ok-key.key (search rules))) ∙ sym c.rises.ensures
-    ∙ c.if-not-rises.false) c.in_err-offset.ensures c.loop.invariant)
+    ∙ c.if-not-rises.false) c.in_err-offset.ensures.gives c.loop.invariant)
 
 pub loop-preserved : goal.loop-preserved
 loop-preserved c =
@@ -37,8 +37,8 @@ loop-preserved c =
     let up = sym (ap (rises c.loop.before) same) ∙ sym c.rises.ensures ∙ c.if-not-rises.false in
     rw (e, same) (pairs_go_on c.loop.pairs.items c.args.pc c.loop.before c.args.count c.loop.counter c.loop.rest.now
     c.in_ok-key.key c.in_ok-key.after.now c.in_ok-offset.offset c.in_ok-offset.after.now
-    (pairs_at c.args.pc None c.args.count c.args.bytes.now) c.loop-test.true c.in_ok-key.ensures up
-    c.in_ok-offset.ensures c.loop.invariant)
+    (pairs_at c.args.pc None c.args.count c.args.bytes.now) c.loop-test.true c.in_ok-key.ensures.gives up
+    c.in_ok-offset.ensures.gives c.loop.invariant)
 
 pub returns : goal.returns
 returns c = pairs_done c.loop.pairs.items c.args.pc c.loop.before c.args.count c.loop.counter c.loop.rest.now

@@ -9,7 +9,7 @@ pub returns-in_err-offset : goal.returns-in_err-offset
 returns-in_err-offset c =
     let p = err_from_is_err_and c.from_residual.result c.from_residual.ensures.1 in
     rw (p.1, p.2) (targets_end c.in_err-offset.field-0.0 c.loop.targets.items c.args.pc c.args.count c.loop.counter
-    c.loop.rest.now (targets_at c.args.pc c.args.count c.args.bytes.now) c.loop-test.true c.in_err-offset.ensures
+    c.loop.rest.now (targets_at c.args.pc c.args.count c.args.bytes.now) c.loop-test.true c.in_err-offset.ensures.gives
     c.loop.invariant)
 
 pub loop-preserved : goal.loop-preserved
@@ -18,7 +18,7 @@ loop-preserved c =
     ∷ [] = search (rules, ints, to_z-of_z) in
     rw e (targets_go_on c.loop.targets.items c.args.pc c.args.count c.loop.counter c.loop.rest.now c.in_ok-offset.offset
     c.in_ok-offset.after.now (targets_at c.args.pc c.args.count c.args.bytes.now) c.loop-test.true
-    c.in_ok-offset.ensures c.loop.invariant)
+    c.in_ok-offset.ensures.gives c.loop.invariant)
 
 pub returns : goal.returns
 returns c = targets_done c.loop.targets.items c.args.pc c.args.count c.loop.counter c.loop.rest.now
