@@ -5,7 +5,7 @@ Usage: first_build.py [--jobs N] [--log FOLDER] [--program | NAME ..]
 
 `rt check` in a crate builds what is below it one crate after another, and a second `rt` in the same checkout waits for it;
 `rt all check` reads every crate once before it begins. This calls the kit as `rt all` does, for the crates named and those
-below them, or for all but the crates of tests, so many at a time (three), each by one process. What each says goes into
+below them, or for all but the crates of tests, so many at a time (three), each by one process, or by more where fewer can begin. What each says goes into
 FOLDER/NAME.log (/tmp/first_build), and a line for each into standard output. It begins with what is kept in out/, and may be
 stopped at any time: all that it started ends with it, and a next call goes on. It calls parts of the kit that its authors
 may change.
@@ -69,9 +69,9 @@ class Build:
         ready = [it for it in left if all(dep in self.done for dep in it.deps if dep in self.crates)]
         return sorted(ready, key=self.height, reverse=True)
 
-    def status_of(self, crate):
-        """Proves a crate, which says all in its log, and gives the status."""
-        flags = ["--jobs", "1"]
+    def status_of(self, crate, processes):
+        """Proves a crate by so many processes, which says all in its log, and gives the status."""
+        flags = ["--jobs", str(processes)]
         try:
             with open(f"{self.log}/{crate.name}.log", "w+", encoding="utf-8") as crate.out:
                 os.makedirs(f"{crate.folder}/out", exist_ok=True)
@@ -80,10 +80,10 @@ class Build:
             traceback.print_exc()
             return 2
 
-    def work(self, crate):
-        """Proves a crate, and says so in a line."""
+    def work(self, crate, processes):
+        """Proves a crate by so many processes, and says so in a line."""
         began = time.time()
-        status = self.status_of(crate)
+        status = self.status_of(crate, processes)
         with self.turn:
             (self.failed if status else self.done).add(crate)
             self.running.discard(crate)
@@ -100,9 +100,11 @@ class Build:
         """Builds all, and gives the status."""
         with self.turn:
             while True:
-                for crate in self.ready()[: self.jobs - len(self.running)]:
+                places = self.jobs - len(self.running)
+                begun = self.ready()[:places]
+                for crate in begun:
                     self.running.add(crate)
-                    threading.Thread(target=self.work, args=(crate,)).start()
+                    threading.Thread(target=self.work, args=(crate, places // len(begun))).start()
                 if not self.running:
                     return 1 if self.failed else 0
                 self.turn.wait()

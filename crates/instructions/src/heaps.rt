@@ -108,7 +108,7 @@ impl Heap {
     }
 
     /// Shades what a turn wrote, in the order of writing.
-    #[inline]
+    #[inline(always)]
     pub(crate) fn shade_all(&mut self, written: &Written)
         ensures { self.new ≡ all_shaded self.old written.now }
     {

@@ -52,6 +52,7 @@ impl Written {
     }
 
     /// The references among values, in order.
+    #[inline(always)]
     pub fn of(values: &[Value]) -> Written
         requires { length values.now ≤ 6 }
         ensures { result ≡ births_of values.now }
