@@ -5,7 +5,9 @@ use crate::debugging::debugged;
 use command_line::endings::{Ending, Exit};
 use command_line::explaining::{all_codes, explained};
 use command_line::options::{AssembleOptions, Command, RunOptions};
-use comparison::checking::first_difference_watched;
+use comparison::checking::difference;
+use comparison::references::{IdealReference, Reference};
+use comparison::shows_world;
 use explore_command::commanding::explored;
 use hall::HallError;
 use launcher::sources::{SourceError, assembled};
@@ -16,7 +18,7 @@ use program_files::run_ends::{ended, write_output};
 use program_files::stored_runs::{replay, upgrade, write_stored};
 use program_files::whole_files::{read_one, write_one, write_text};
 use scheduler::worlds::World;
-use std::alloc::Global;
+use std::alloc::{AllocError, Global};
 use std::io::{self, Read, Write};
 use std::sync::Wait;
 use std::thread::Threads;
@@ -33,10 +35,28 @@ fn not_carried(alloc: Global, error: HallError) -> Ending {
     }
 }
 
+/// The first row of a run after which it differs from the ideal run of its program; none where it never does, and the
+/// world itself shows in the end what the ideal run shows. A watch is told how many rows were compared.
+fn first_difference<P: Watch>(
+    alloc: Global,
+    world: &World,
+    watch: &mut P,
+) -> Result<Option<usize>, AllocError> {
+    let mut reference = IdealReference::of(alloc, world)?;
+    if let Some(row) = difference(alloc, world, &mut reference, watch)? {
+        return Ok(Some(row));
+    }
+    if shows_world(world, reference.world())? {
+        Ok(None)
+    } else {
+        Ok(Some(world.journal().rows().len()))
+    }
+}
+
 /// The end of a run that was compared with the ideal run of its program: its own, unless they differ or memory runs
-/// out. A watch is told how many rows were compared.
+/// out.
 fn checked<P: Watch>(alloc: Global, world: &World, watch: &mut P) -> Ending {
-    match first_difference_watched(alloc, world, watch) {
+    match first_difference(alloc, world, watch) {
         Ok(None) => ended(alloc, world),
         Ok(Some(row)) => Ending::reported(Exit::Differs, format!(in alloc; "row {row} differs")),
         Err(_) => Ending::memory(),
