@@ -5,10 +5,10 @@ Usage: first_build.py [--jobs N] [--log FOLDER] [--program | NAME ..]
 
 `rt check` in a crate builds what is below it one crate after another, and a second `rt` in the same checkout waits for it;
 `rt all check` reads every crate once before it begins. This calls the kit as `rt all` does, for the crates named and those
-below them, or for all but the crates of tests, so many at a time (three), each by one process, or by more where fewer can begin. What each says goes into
-FOLDER/NAME.log (/tmp/first_build), and a line for each into standard output. It begins with what is kept in out/, and may be
-stopped at any time: all that it started ends with it, and a next call goes on. It calls parts of the kit that its authors
-may change.
+below them, or for all but the crates of tests, so many at a time (three), each by one process, or by more where fewer can
+begin. What each says goes into FOLDER/NAME.log (/tmp/first_build), and a line for each into standard output. It begins with
+what is kept in out/, and may be stopped at any time: all that it started ends with it, and a next call goes on. It calls
+parts of the kit that its authors may change.
 
 With --program, as `./jvm --prove` calls it, `jvm` and the crates below it are proved, and then the program is built. There
 as many work at a time as processors and memory allow, three at most; once one has failed, no other is begun; and the logs
