@@ -1,4 +1,5 @@
 pub mod AcceptedClasses
+pub mod AccountTurnLemmas
 pub mod ActingLemmas
 pub mod AgreeLemmas
 pub mod AloneLemmas
@@ -42,6 +43,9 @@ pub mod InvokeLemmas
 pub mod KindsHeld
 pub mod NoReferences
 pub mod ObjectsShown
+pub mod OwedCells
+pub mod OwedCommuting
+pub mod OwedLemmas
 pub mod OwnArguments
 pub mod OwnCalls
 pub mod KeptWaiting
@@ -111,3 +115,8 @@ pub mod TypeOrder
 pub mod TypesHeld
 pub mod TypesSilent
 mod RegisterTurns
+mod OwedTurns
+mod OwedLifts
+mod OwedRoundLemmas
+mod FreeCalls
+mod RoundChains

@@ -99,7 +99,7 @@ shown_refs program (Some o) = go o.kind
     go (Instance class) = refs-keyed (field_keys program class) o.words
     go (Array type) = refl
 
-words_are : (program : List ClassListing) (objects : List (Option (StoredObject Kind))) (c : ℕ)
+pub words_are : (program : List ClassListing) (objects : List (Option (StoredObject Kind))) (c : ℕ)
     → words_of (objects_shown program objects) (suc c) ≡ map ref_of (words_if (object_if (slice_get objects c)))
 words_are program [] c = refl
 words_are program (o ∷ objects) zero = shown_refs program o

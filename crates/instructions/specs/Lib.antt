@@ -1,3 +1,4 @@
+pub mod AccountTurns
 pub mod Acting
 pub mod Allowed
 pub mod Aside
@@ -40,3 +41,6 @@ pub mod Throwing
 pub mod TypeNumbers
 pub mod TypesByNumbers
 pub mod Idle
+pub mod Owed
+pub mod OwedSteps
+pub mod LentRounds

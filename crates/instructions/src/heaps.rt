@@ -19,6 +19,8 @@ mod filling;
 mod listing;
 mod looking;
 mod monitoring;
+pub(crate) mod owed;
+mod owed_steps;
 mod showing;
 mod starting;
 

@@ -28,6 +28,7 @@
 //! | register_turns, code_calls, code_steps, monitors_in_code, callees, heap_steps | register code and other steps, on lent frames |
 //! | quick_calls, quick_arrays, quick_fields, quick_statics, quick_casts | steps on whole frames, of which nothing unusual comes |
 //! | lone_rounds, noted_rounds, quick_objects, doubling | rounds with turns of the collector and with new objects |
+//! | owed_rounds, heaps/owed, heaps/owed_steps | such rounds on lent frames: the collector's turns after many steps |
 //! | stops | places before which such rounds end |
 //!
 //! To change what an instruction does, begin with its family in the crate `model`, then its file of the general way, and
@@ -69,6 +70,7 @@ mod names;
 pub mod noted_rounds;
 mod objects;
 mod opening;
+mod owed_rounds;
 mod own_prints;
 mod printing;
 mod pushes;

@@ -9,10 +9,10 @@
 //! | `constant(frames, next, c)` | `reported_with result frames.new ≡ moved_with frames.old (constant next c f)` |
 //! | `table_switched(frames, table)`, `lookup_switched(frames, lookup)` | the same with `table_switched table f`, `lookup_switched lookup f` |
 //! | `plain_step(frames, step)` | the same with `plain_move step.next step.operation f`, where that is `Some` |
-//! | `hot_step(frames, step)` | where it answers `Some(written)`, what `plain_step` does, and `written` is the reference written, if any; where it answers `None`, nothing changed |
+//! | `hot_step::<W>(frames, step)` | where it answers `Some(written)`, what `plain_step` does, and `written` is the reference written, if any; where it answers `None`, nothing changed |
 //!
-//! `hot_step` is for a loop of turns over frames that are a variable of the loop, and leaves out what is rare. It is
-//! marked to be inlined, but where it grows a caller past the kit's bound it stays a call.
+//! `hot_step` is for a loop of turns over frames that are a variable of the loop, and leaves out what is rare. Each loop
+//! has a copy of its own, by a name `W`, so that clang inlines it there.
 //!
 //! `proofs/TableLemmas.antt` says what such an equation comes to in the instruction table: by `family_moves` an
 //! instruction's plain operation moves the frame as its family does; `by_family-plain`, and then `completes-done` or
